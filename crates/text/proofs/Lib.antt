@@ -1,0 +1,9 @@
+pub mod Blanks
+pub mod Cuts
+pub mod Docs
+pub mod Members
+pub mod Signs
+pub mod Spans
+pub mod Trims
+pub mod Values
+pub mod Whole

@@ -1,0 +1,11 @@
+pub mod Decimal
+pub mod Doc
+pub mod Left
+pub mod Lists
+pub mod Literals
+pub mod Pieces
+pub mod Refusal
+pub mod Rows
+pub mod Spaces
+pub mod Span
+pub mod Steps
