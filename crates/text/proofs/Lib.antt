@@ -1,4 +1,5 @@
 pub mod Blanks
+pub mod Clamps
 pub mod Cuts
 pub mod Docs
 pub mod Members

@@ -9,3 +9,4 @@ pub mod Rows
 pub mod Spaces
 pub mod Span
 pub mod Steps
+pub mod Word

@@ -1,0 +1,3 @@
+pub mod Cudf
+pub mod Meaning
+pub mod Rows

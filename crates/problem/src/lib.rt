@@ -1,0 +1,3 @@
+//! Problems and answers: reading them, what a plan is, and its counts.
+pub mod rows;
+pub mod view;
