@@ -1,0 +1,57 @@
+//! The calls on a cursor over pieces.
+ghost use mathlib.Core.Path.{_≡_};
+ghost use mathlib.Core.List.{[]};
+ghost use Rattle.std.specs.Orderings.{When};
+ghost use Rattle.text.specs.Left.{left, Takes};
+ghost use Rattle.text.specs.Pieces.{pieces};
+ghost use Rattle.text.specs.Word.{wordIn};
+use super::Parts;
+use crate::find::index_of;
+use crate::word::Word;
+use crate::word::bytes_of;
+use crate::word::clamped;
+
+impl<'a> Parts<'a> {
+    /// All pieces of a part of a text.
+    pub fn new(text: &'a [u8], part: Word, mark: u8) -> Parts<'a>
+        ensures left { λ r. ⌜ left r ≡ pieces mark (wordIn (now (text .entry)) part) ⌝ }
+        ensures text { λ r. ⌜ now (r .text) ≡ now (text .entry) ⌝ }
+    {
+        Parts {
+            text,
+            rest: clamped(text, part),
+            mark,
+            done: false,
+        }
+    }
+
+    /// Whether no piece is left.
+    pub fn is_done(&self) -> bool
+        ensures { λ r. ⌜ When r (left (now (self .entry)) ≡ []) (left (now (self .entry)) ≡ [] → ⊥) ⌝ }
+    {
+        self.done
+    }
+
+    /// Takes the next piece, by its place.
+    pub fn next_part(&mut self) -> Option<Word>
+        ensures { λ r. ⌜ Takes (now (self .entry)) (now (self .exit)) r ⌝ }
+    {
+        if self.done {
+            return None;
+        }
+        let rest = self.rest;
+        let n = index_of(bytes_of(self.text, rest), self.mark);
+        if n >= rest.len {
+            self.done = true;
+            return Some(rest);
+        }
+        self.rest = Word {
+            start: rest.start + n + 1,
+            len: rest.len - n - 1,
+        };
+        Some(Word {
+            start: rest.start,
+            len: n,
+        })
+    }
+}
