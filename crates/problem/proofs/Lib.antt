@@ -1,0 +1,4 @@
+pub mod Growing
+pub mod Listing
+pub mod Placing
+pub mod Storing
