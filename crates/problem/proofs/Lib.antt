@@ -1,3 +1,4 @@
+pub mod Drafting
 pub mod Growing
 pub mod Listing
 pub mod Placing

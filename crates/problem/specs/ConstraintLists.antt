@@ -5,6 +5,7 @@
 -- limitOf: how many rows there can be, 1024 at most
 -- put, stored, storedAll: one more row, those of a list, those of conjuncts
 -- Stores: what a call that puts rows answers, by what they come to
+-- once: what comes of a property, unless its stanza has it already
 -- listed, conjoined: what a list comes to where so many constraints are there already: its members and how many are there then, or a fault
 use mathlib.Core.Bool.{Bool, true, false, cond}
 use mathlib.Core.List.{List, [], _∷_, _++_, map}
@@ -24,7 +25,7 @@ use Rattle.problem.specs.Cudf.{Constraint}
 use Rattle.problem.specs.Meaning.{constraintOf, front}
 use Rattle.problem.specs.Words.{constraint}
 use Rattle.problem.specs.declared.fault.ProblemFault.{ProblemFault}
-use Rattle.problem.specs.declared.fault.ProblemFault.the-variants.{Value, TooMany}
+use Rattle.problem.specs.declared.fault.ProblemFault.the-variants.{Property, Value, TooMany}
 use Rattle.problem.specs.declared.rows.ConstraintRow.{ConstraintRow}
 
 abbrev pub then : {X Y : Type 0} → Option X → (X → Option Y) → Option Y
@@ -40,6 +41,10 @@ constraintList v = cond (eqb (length v) 0) (Some []) (allOf constraint (pieces 4
 
 abbrev pub conjunctList : List ℕ → Option (List (List Constraint))
 conjunctList v = cond (eqb (length v) 0) (Some []) (allOf (λ p. allOf constraint (pieces 124 p)) (pieces 44 v))
+
+abbrev pub once : {X Y : Type 0} → ℕ → Option X → Result Y ProblemFault → Result Y ProblemFault
+once n (Some x) r = Err (Property n)
+once n None r = r
 
 abbrev pub listed : ℕ → ℕ → ℕ → Option (List Constraint) → Result (List Constraint × ℕ) ProblemFault
 listed limit have n None = Err (Value n)

@@ -1,6 +1,9 @@
 pub mod ConstraintLists
 pub mod Cudf
+pub mod Drafts
 pub mod Growth
+pub mod Heads
+pub mod Keys
 pub mod Meaning
 pub mod Placed
 pub mod Refusal

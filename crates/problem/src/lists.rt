@@ -7,7 +7,7 @@ ghost use Rattle.std.specs.Vec.{made};
 ghost use Rattle.text.specs.Pieces.{pieces};
 ghost use Rattle.text.specs.Rows.{items};
 ghost use Rattle.text.specs.Word.{wordIn};
-ghost use Rattle.problem.specs.ConstraintLists.{kept, stored, storedAll, limitOf, Stores, constraintList, conjunctList, listed, conjoined};
+ghost use Rattle.problem.specs.ConstraintLists.{kept, stored, storedAll, limitOf, Stores, once, constraintList, conjunctList, listed, conjoined};
 ghost use Rattle.problem.specs.Growth.{Grown, listAt, conjunctsAt, okMapped, settled, SpanOf};
 use crate::constraint::read_constraint;
 use crate::fault::ProblemFault;
@@ -75,18 +75,22 @@ fn settle(
     }
 }
 
-/// Reads a list of constraints of line `number` after the rows.
+/// Reads a list of constraints of line `number` after the rows, unless its stanza has one already.
 pub(crate) fn read_list(
     text: &[u8],
+    already: Option<Span>,
     value: Word,
     number: usize,
     out: &mut Rows<'_, ConstraintRow>,
 ) -> Result<Span, ProblemFault>
     requires { ⌜ length (items (now out)) ≤ limitOf (now out) ⌝ }
-    ensures list { λ r. ⌜ okMapped (listAt (now (text .entry)) (now (out .exit))) r ≡ listed (limitOf (now (out .entry))) (length (items (now (out .entry)))) number (constraintList (wordIn (now (text .entry)) value)) ⌝ }
+    ensures list { λ r. ⌜ okMapped (listAt (now (text .entry)) (now (out .exit))) r ≡ once number already (listed (limitOf (now (out .entry))) (length (items (now (out .entry)))) number (constraintList (wordIn (now (text .entry)) value))) ⌝ }
     ensures span { λ r. ⌜ made r (SpanOf (now (out .entry)) (now (out .exit))) ⌝ }
     ensures grown { λ _. ⌜ Grown (now (text .entry)) (now (out .entry)) (now (out .exit)) ⌝ }
 {
+    if already.is_some() {
+        return Err(ProblemFault::Property(number));
+    }
     let first = out.len();
     if bytes_of(text, value).is_empty() {
         return Ok(Span { first, len: 0 });
@@ -95,18 +99,22 @@ pub(crate) fn read_list(
     settle(read, first, number, out)
 }
 
-/// Reads a list of conjuncts of line `number` after the rows.
+/// Reads a list of conjuncts of line `number` after the rows, unless its stanza has one already.
 pub(crate) fn read_depends(
     text: &[u8],
+    already: Option<Span>,
     value: Word,
     number: usize,
     out: &mut Rows<'_, ConstraintRow>,
 ) -> Result<Span, ProblemFault>
     requires { ⌜ length (items (now out)) ≤ limitOf (now out) ⌝ }
-    ensures list { λ r. ⌜ okMapped (conjunctsAt (now (text .entry)) (now (out .exit))) r ≡ conjoined (limitOf (now (out .entry))) (length (items (now (out .entry)))) number (conjunctList (wordIn (now (text .entry)) value)) ⌝ }
+    ensures list { λ r. ⌜ okMapped (conjunctsAt (now (text .entry)) (now (out .exit))) r ≡ once number already (conjoined (limitOf (now (out .entry))) (length (items (now (out .entry)))) number (conjunctList (wordIn (now (text .entry)) value))) ⌝ }
     ensures span { λ r. ⌜ made r (SpanOf (now (out .entry)) (now (out .exit))) ⌝ }
     ensures grown { λ _. ⌜ Grown (now (text .entry)) (now (out .entry)) (now (out .exit)) ⌝ }
 {
+    if already.is_some() {
+        return Err(ProblemFault::Property(number));
+    }
     let first = out.len();
     if bytes_of(text, value).is_empty() {
         return Ok(Span { first, len: 0 });

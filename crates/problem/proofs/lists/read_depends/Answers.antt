@@ -6,15 +6,20 @@ use Rattle.std.specs.Vec.{made}
 use Rattle.text.specs.Rows.{items}
 use Rattle.text.specs.Word.{wordIn}
 use Rattle.problem.specs.Growth.{SpanOf, okMapped, listAt, conjunctsAt, settled}
+use borrow.Author.Needs.{needs}
 use Rattle.problem.proofs.Growing.{grown-none, front-short}
+use Rattle.problem.proofs.Drafting.{once-some, once-none}
 use Rattle.problem.proofs.Listing.{conjuncts-read, conjuncts-empty, span-settled, span-empty}
 use Rattle.problem.proofs.lists.read_depends.Needs as need
+
+pub returns-then-is-some : need.returns-then-is-some
+returns-then-is-some c = record { list = once-some (c .args .number) (c .args .already) _ (search needs); span = tt; grown = grown-none (c .args .text .now) (c .args .out .now) }
 
 pub returns-then-is-empty : need.returns-then-is-empty
 returns-then-is-empty c =
     let e = sym (ap (λ t. eqb (length t) 0) (c .bytes-of .ensures)) ∙ sym (c .is-empty .ensures) ∙ c .if-is-empty .taken in
     record {
-      list = conjuncts-empty (c .args .text .now) (wordIn (c .args .text .now) (c .args .value)) (c .args .out .now) (c .len-first .result) (c .args .number) e (c .pre);
+      list = once-none (c .args .number) (c .args .already) (search needs) (conjuncts-empty (c .args .text .now) (wordIn (c .args .text .now) (c .args .value)) (c .args .out .now) (c .len-first .result) (c .args .number) e (c .pre));
       span = span-empty (c .args .text .now) (c .args .text .now) (c .args .out .now) (c .len-first .result) 0 (c .len-first .ensures);
       grown = grown-none (c .args .text .now) (c .args .out .now);
     }
@@ -28,7 +33,7 @@ returns c =
     let short = front-short (items (c .args .out .now)) (items (c .read-conjuncts-read .last .out)) (c .read-conjuncts-read .ensures .grown .front) in
     let q = c .settle .ensures ∙ ap (λ f. settled f (length (items (c .read-conjuncts-read .last .out))) (c .args .number) (c .read-conjuncts-read .result)) (c .len-first .ensures) in
     record {
-      list = ap (okMapped (conjunctsAt (c .args .text .now) (c .read-conjuncts-read .last .out))) q ∙ conjuncts-read (c .args .text .now) (wordIn (c .args .text .now) (c .args .value)) (c .args .out .now) (c .read-conjuncts-read .last .out) (c .args .number) (c .read-conjuncts-read .result) e (c .pre) (c .read-conjuncts-read .ensures .grown) (c .read-conjuncts-read .ensures .stored);
+      list = once-none (c .args .number) (c .args .already) (search needs) (ap (okMapped (conjunctsAt (c .args .text .now) (c .read-conjuncts-read .last .out))) q ∙ conjuncts-read (c .args .text .now) (wordIn (c .args .text .now) (c .args .value)) (c .args .out .now) (c .read-conjuncts-read .last .out) (c .args .number) (c .read-conjuncts-read .result) e (c .pre) (c .read-conjuncts-read .ensures .grown) (c .read-conjuncts-read .ensures .stored));
       span = subst (λ x. made x (SpanOf (c .args .out .now) (c .read-conjuncts-read .last .out))) (sym (c .settle .ensures)) (span-settled (c .args .out .now) (c .read-conjuncts-read .last .out) (c .len-first .result) (c .args .number) (c .read-conjuncts-read .result) (c .len-first .ensures) (omega arith));
       grown = c .read-conjuncts-read .ensures .grown;
     }
