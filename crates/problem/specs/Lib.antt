@@ -6,6 +6,8 @@ pub mod Heads
 pub mod Keys
 pub mod Meaning
 pub mod Placed
+pub mod Reading
 pub mod Refusal
 pub mod Rows
+pub mod Sections
 pub mod Words
