@@ -1,3 +1,4 @@
+pub mod Again
 pub mod Closing
 pub mod Drafting
 pub mod Growing

@@ -8,6 +8,7 @@ pub mod Meaning
 pub mod Placed
 pub mod Reading
 pub mod Refusal
+pub mod Repeats
 pub mod Rows
 pub mod Sections
 pub mod Words

@@ -7,7 +7,9 @@ ghost use Rattle.text.specs.Rows.{items, Same};
 ghost use Rattle.text.specs.Word.{wordIn, Inside};
 ghost use Rattle.problem.specs.ConstraintLists.{limitOf};
 ghost use Rattle.problem.specs.Growth.{Grown, okMapped};
-ghost use Rattle.problem.specs.Reading.{placed, step};
+ghost use Rattle.problem.specs.Reading.{placed, step, run, start};
+ghost use Rattle.text.specs.Doc.{doc, count};
+ghost use mathlib.Core.List.{[]};
 ghost use Rattle.problem.specs.Sections.{limitsOf, placeOf, placeAt, stateOf, SectionOk, Sound};
 ghost use Rattle.problem.specs.Drafts.{soughtOf};
 ghost use Rattle.problem.specs.declared.section.Section.the-variants.{Package, Request};
@@ -16,6 +18,7 @@ ghost use Rattle.text.specs.Left.{shown};
 use crate::draft::Draft;
 use crate::draft::extend;
 use crate::fault::ProblemFault;
+use crate::fault::ProblemFaultFromText;
 use crate::rows::ConstraintRow;
 use crate::rows::PackageRow;
 use crate::section::Progress;
@@ -26,6 +29,7 @@ use crate::view::PACKAGES_MOST;
 use crate::wanted::Wanted;
 use crate::wanted::add_request;
 use text::fault::TextFault;
+use text::lines::Lines;
 use text::property::Property;
 use text::property::read_property;
 use text::rows::Rows;
@@ -105,4 +109,30 @@ fn moved(read: Result<Section, ProblemFault>, last: Progress) -> Result<Progress
         section,
         request: last.request,
     })
+}
+
+/// Reads all lines of a document into rows, of which there are none yet. Says where the reading stands then, and how
+/// many lines there were.
+pub(crate) fn read_lines(
+    text: &[u8],
+    packages: &mut Rows<'_, PackageRow>,
+    constraints: &mut Rows<'_, ConstraintRow>,
+) -> Result<(Progress, usize), ProblemFault>
+    requires packages { ⌜ items (now packages) ≡ [] ⌝ }
+    requires constraints { ⌜ items (now constraints) ≡ [] ⌝ }
+    ensures state { λ r. ⌜ okMapped (λ p. stateOf (now (text .entry)) (items (now (packages .exit))) (items (now (constraints .exit))) (p .0)) r ≡ run (limitsOf (now (packages .entry)) (now (constraints .entry))) 0 start (doc (now (text .entry))) ⌝ }
+    ensures lines { λ r. ⌜ made r (λ p. (p .1 ≡ count (doc (now (text .entry)))) × (p .1 ≤ length (now (text .entry)))) ⌝ }
+    ensures sound { λ r. ⌜ made r (λ p. Sound (length (now (text .entry))) (length (items (now (constraints .exit)))) (items (now (packages .exit))) (p .0)) ⌝ }
+    ensures grown { λ _. ⌜ Grown (now (text .entry)) (now (constraints .entry)) (now (constraints .exit)) ⌝ }
+    ensures same { λ _. ⌜ Same (now (packages .entry)) (now (packages .exit)) ⌝ }
+{
+    let mut lines = Lines::new(text);
+    let mut progress = Progress {
+        section: Section::Between,
+        request: None,
+    };
+    while let Some(line) = lines.next_line()? {
+        progress = read_line(text, progress, lines.number(), line, packages, constraints)?;
+    }
+    Ok((progress, lines.number()))
 }
