@@ -8,7 +8,7 @@ use lib.Dec.{ltb}
 use lib.ListN.{length}
 use native.Mathlib.Omega.{arith}
 use Rattle.std.proofs.shelf.Elements.{all-push}
-use Rattle.std.proofs.shelf.Lists.{map-push, length-map}
+use Rattle.std.proofs.shelf.Lists.{map-push, length-map, length-push}
 use Rattle.std.proofs.shelf.Tests.{lt-ltb, le-ltb}
 use Rattle.std.specs.Options.{mapped, valueOr, Cases}
 use Rattle.std.specs.Vec.{made}
@@ -36,7 +36,7 @@ use Rattle.problem.specs.declared.wanted.Wanted.{Wanted}
 abbrev noSpan : Span
 noSpan = record { first = 0; len = 0 }
 
-list-given : (text : List ℕ) (cs : List ConstraintRow) (o : Option Span) → listOf text cs (valueOr o noSpan) ≡ valueOr (mapped (listOf text cs) o) []
+pub list-given : (text : List ℕ) (cs : List ConstraintRow) (o : Option Span) → listOf text cs (valueOr o noSpan) ≡ valueOr (mapped (listOf text cs) o) []
 list-given text cs None = refl
 list-given text cs (Some s) = refl
 
@@ -71,7 +71,7 @@ closes limit ps qs d last (Err x) e f text cs = at (f .1)
         let l : x ≡ TooMany (d .head .line) = h .3 ∙ ap TooMany (row-line d (d .head .version) (h .0) (h .1)) in
         rw (e, g, k) (ap Err l)
 
-spanned-given : (n : ℕ) (o : Option Span) → Cases o (Unit {0}) (Spanned n) → Spanned n (valueOr o noSpan)
+pub spanned-given : (n : ℕ) (o : Option Span) → Cases o (Unit {0}) (Spanned n) → Spanned n (valueOr o noSpan)
 spanned-given n None h = omega arith
 spanned-given n (Some s) h = h
 
@@ -82,8 +82,8 @@ row-good bytes n d (Some w) row v e h =
     let k : (1 ≤ w) × (w ≤ 999999) = subst (λ o. Cases o (Unit {0}) (λ v. (1 ≤ v) × (v ≤ 999999))) v (h .head .version) in
     subst (PackageOk bytes n) q (record { name = h .head .name; least = k .0; most = k .1; depends = spanned-given n (d .depends) (h .depends); conflicts = spanned-given n (d .conflicts) (h .conflicts) })
 
-pub closes-good : {U : Type 0} (limit : ℕ) (ps qs : List PackageRow) (d : Draft) (last : Progress) (r : Result U ProblemFault) → last .section ≡ Package d → Files limit ps d qs r → (bytes n : ℕ) → Sound bytes n ps last → made (okMapped (λ _. record { section = Between; request = last .request }) r) (Sound bytes n qs)
-closes-good limit ps qs d last (Ok u) e f bytes n h =
+pub closes-good : {U : Type 0} (limit : ℕ) (ps qs : List PackageRow) (d : Draft) (last : Progress) (r : Result U ProblemFault) → limit ≤ 256 → last .section ≡ Package d → Files limit ps d qs r → (bytes n : ℕ) → Sound bytes n ps last → made (okMapped (λ _. record { section = Between; request = last .request }) r) (Sound bytes n qs)
+closes-good limit ps qs d last (Ok u) m e f bytes n h =
     let ok = row-good bytes n d (d .head .version) (f .0) refl (f .1) (subst (SectionOk bytes n) e (h .section)) in
-    record { packages = subst (Each (PackageOk bytes n)) (sym (f .3)) (all-push (PackageOk bytes n) ps (f .0) (h .packages) ok); section = tt; request = h .request }
-closes-good limit ps qs d last (Err x) e f bytes n h = tt
+    record { packages = subst (Each (PackageOk bytes n)) (sym (f .3)) (all-push (PackageOk bytes n) ps (f .0) (h .packages) ok); section = tt; request = h .request; few = omega (arith, ap length (f .3), length-push ps (f .0), f .2) }
+closes-good limit ps qs d last (Err x) m e f bytes n h = tt

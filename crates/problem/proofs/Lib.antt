@@ -1,5 +1,6 @@
 pub mod Again
 pub mod Closing
+pub mod Concluding
 pub mod Drafting
 pub mod Growing
 pub mod Lining

@@ -80,4 +80,4 @@ wanted-more m n l None h = tt
 wanted-more m n l (Some w) h = record { install = spanned-more m n (w .install) l (h .install); remove = spanned-more m n (w .remove) l (h .remove) }
 
 pub sound-more : (bytes m n : ℕ) (ps : List PackageRow) (last : Progress) (s : Section) → m ≤ n → Sound bytes m ps last → SectionOk bytes n s → Sound bytes n ps (record { section = s; request = last .request })
-sound-more bytes m n ps last s l h k = record { packages = packages-more bytes m n l ps (h .packages); section = k; request = wanted-more m n l (last .request) (h .request) }
+sound-more bytes m n ps last s l h k = record { packages = packages-more bytes m n l ps (h .packages); section = k; request = wanted-more m n l (last .request) (h .request); few = h .few }

@@ -7,6 +7,7 @@ pub mod Keys
 pub mod Meaning
 pub mod Placed
 pub mod Reading
+pub mod Reads
 pub mod Refusal
 pub mod Repeats
 pub mod Rows

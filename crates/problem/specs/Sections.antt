@@ -3,7 +3,7 @@
 -- placeAt: a place, with how many constraints there are
 -- rowOf: the row of a package stanza that was read to its end
 -- packageLimit: how many package rows there can be, 256 at most; Files: what putting one more does
--- SectionOk, Sound: names lie in the document, runs among the rows
+-- SectionOk, Sound: names lie in the document, runs among the rows, and there are not too many packages
 use mathlib.Core.Bool.{false}
 use mathlib.Core.List.{List, [], _∷_, _++_, map}
 use mathlib.Core.Logic.{_⊎_}
@@ -71,3 +71,4 @@ pub record Sound (bytes n : ℕ) (ps : List PackageRow) (p : Progress) : Type 0 
   pub packages : Each (PackageOk bytes n) ps
   pub section : SectionOk bytes n (p .section)
   pub request : Cases (p .request) (Unit {0}) (WantedOk n)
+  pub few : length ps ≤ 256
