@@ -3,6 +3,7 @@ pub mod Closing
 pub mod Concluding
 pub mod Drafting
 pub mod Growing
+pub mod Holding
 pub mod Lining
 pub mod Listing
 pub mod Placing

@@ -6,7 +6,7 @@ mod head;
 mod keys;
 mod lines;
 mod lists;
-mod read;
+pub mod read;
 mod repeats;
 pub mod rows;
 mod section;

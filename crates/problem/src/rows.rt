@@ -40,6 +40,9 @@ pub struct ConstraintRow {
     pub last: bool,
 }
 
+/// The run of a list that was not given.
+pub const NO_SPAN: Span = Span { first: 0, len: 0 };
+
 /// What stands in a place without a package.
 pub const NO_PACKAGE: PackageRow = PackageRow {
     line: 0,

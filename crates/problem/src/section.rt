@@ -19,8 +19,8 @@ use crate::fault::ProblemFault;
 use crate::head::begin;
 use crate::keys::FirstKey;
 use crate::keys::read_first_key;
+use crate::rows::NO_SPAN;
 use crate::rows::PackageRow;
-use crate::rows::Span;
 use crate::view::PACKAGES_MOST;
 use crate::wanted::Wanted;
 use text::property::Property;
@@ -73,9 +73,6 @@ pub(crate) fn open(
         None => Err(ProblemFault::Property(number)),
     }
 }
-
-/// What stands in place of a list that was not given.
-const NO_SPAN: Span = Span { first: 0, len: 0 };
 
 /// The row of a package stanza that was read to its end.
 fn finish(draft: Draft) -> Result<PackageRow, ProblemFault>

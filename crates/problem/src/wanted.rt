@@ -26,6 +26,12 @@ pub(crate) struct Wanted {
     pub remove: Option<Span>,
 }
 
+/// A request that names nothing.
+pub(crate) const NOTHING_WANTED: Wanted = Wanted {
+    install: None,
+    remove: None,
+};
+
 /// Adds a further line to the request stanza.
 pub(crate) fn add_request(
     text: &[u8],
