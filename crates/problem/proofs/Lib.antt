@@ -1,3 +1,9 @@
 pub mod Agreement
+pub mod Conjuncts
+pub mod Denials
 pub mod Feeds
+pub mod Meets
 pub mod Numbers
+pub mod Passing
+pub mod Spans
+pub mod Walks

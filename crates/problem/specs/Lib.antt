@@ -4,3 +4,4 @@ pub mod Meaning
 pub mod PlanClauses
 pub mod Rows
 pub mod Sets
+pub mod Stanzas

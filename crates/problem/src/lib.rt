@@ -1,5 +1,7 @@
 //! Problems and answers: reading them, what a plan is, and its counts.
+pub mod plan_clauses;
 pub mod rows;
+pub mod satisfy;
 pub mod sink;
 pub mod standing;
 pub mod view;
