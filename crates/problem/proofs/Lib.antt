@@ -1,8 +1,11 @@
 pub mod Agreement
+pub mod Checked
 pub mod Conjuncts
 pub mod Denials
 pub mod Feeds
+pub mod Few
 pub mod Meets
+pub mod Names
 pub mod Numbers
 pub mod Passing
 pub mod Spans

@@ -94,7 +94,7 @@ numbered-length : (k : ℕ) (ps : List Package) → length (numbered k ps) ≡ l
 numbered-length k [] = refl
 numbered-length k (p ∷ ps) = ap suc (numbered-length (suc k) ps)
 
-stanzas-length : (v : View) → length (stanzas (problemOf v)) ≡ length (packagesIn v)
+pub stanzas-length : (v : View) → length (stanzas (problemOf v)) ≡ length (packagesIn v)
 stanzas-length v = numbered-length 1 _ ∙ length-map (packagesIn v) _
 
 stanza-at : (v : View) (i : ℕ) (d : Numbered) → i < length (packagesIn v) → getD (stanzas (problemOf v)) i d ≡ stanzaAt v i

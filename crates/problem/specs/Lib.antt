@@ -1,6 +1,8 @@
+pub mod Checking
 pub mod Cudf
 pub mod Feeding
 pub mod Meaning
+pub mod Naming
 pub mod PlanClauses
 pub mod Rows
 pub mod Sets

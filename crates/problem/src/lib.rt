@@ -1,4 +1,6 @@
 //! Problems and answers: reading them, what a plan is, and its counts.
+pub mod counts;
+pub mod plan_check;
 pub mod plan_clauses;
 pub mod rows;
 pub mod satisfy;
