@@ -3,7 +3,9 @@ use mathlib.Core.Path.{_≡_, refl, sym, subst, ap, _∙_}
 use mathlib.Core.Bool.{Bool, true, false, cond, _&&_, _||_, not}
 use mathlib.Core.Logic.{_↔_, Iff·trans, Iff·symm}
 use mathlib.Core.List.{List, [], _∷_, _++_}
-use Prim.Native.Nat.{ℕ, suc, _≤_}
+use Prim.Native.Nat.{ℕ, suc, _+_, _-_, _<_, _≤_}
+use native.Mathlib.Omega.{arith}
+use lib.ListN.{length, getD, take}
 use lib.Dec.{eqb, ltb, T, eqb→eq, eqb-refl}
 use Rattle.std.specs.declared.option.Option.{Option}
 use Rattle.std.specs.declared.option.Option.the-variants.{Some, None}
@@ -309,8 +311,44 @@ all-true n s (c ∷ cs) t = pick (makesTrue s c) t (all-true (suc n) s cs)
     pick true t f = f t
     pick false t f = absurd t
 
+-- the first false clause is false, and those before it are true
+record From (k : ℕ) (s : Chosen) (cs : List Clause) (n : ℕ) : Type 0 where
+  least : k ≤ n
+  most : n < k + length cs
+  here : makesTrue s (getD cs (n - k) []) ≡ false
+  before : Each (λ c. makesTrue s c ≡ true) (take (n - k) cs)
+
+first-false : (k : ℕ) (s : Chosen) (cs : List Clause) (n : ℕ) → firstFalseFrom k s cs ≡ Some n → From k s cs n
+first-false k s [] n e = absurd (subst there (sym e) tt)
+  where
+    there : Option ℕ → Type 0
+    there None = ⊥
+    there (Some x) = Unit {0}
+first-false k s (c ∷ cs) n e = pick (makesTrue s c) refl e (first-false (suc k) s cs n)
+  where
+    pick : (b : Bool) → makesTrue s c ≡ b → cond b (firstFalseFrom (suc k) s cs) (Some k) ≡ Some n → (firstFalseFrom (suc k) s cs ≡ Some n → From (suc k) s cs n) → From k s (c ∷ cs) n
+    pick true g h f =
+        let r = f h in
+        let z : n - k ≡ suc (n - suc k) = omega (arith, r .least) in
+        record {
+          least = omega (arith, r .least);
+          most = omega (arith, r .most);
+          here = ap (λ m. makesTrue s (getD (c ∷ cs) m [])) z ∙ r .here;
+          before = subst (λ m. Each (λ d. makesTrue s d ≡ true) (take m (c ∷ cs))) (sym z) (g, r .before);
+        }
+    pick false g h f =
+        let same : k ≡ n = cc in
+        let z : n - k ≡ 0 = omega arith in
+        record {
+          least = omega arith;
+          most = omega arith;
+          here = ap (λ m. makesTrue s (getD (c ∷ cs) m [])) z ∙ g;
+          before = subst (λ m. Each (λ d. makesTrue s d ≡ true) (take m (c ∷ cs))) (sym z) tt;
+        }
+
 pub plans-agree : PlansAgree
 plans-agree = record {
   clauses = plan-iff;
   none = λ q s. ((λ e. plan-iff q s .0 (none-false 1 s (planClauses q) e)), λ p. all-true 1 s (planClauses q) (plan-iff q s .1 p));
+  first = λ s cs n e. let f = first-false 1 s cs n e in record { least = f .least; most = omega (arith, f .most); here = f .here; before = f .before };
 }

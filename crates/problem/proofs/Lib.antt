@@ -10,3 +10,4 @@ pub mod Numbers
 pub mod Passing
 pub mod Spans
 pub mod Walks
+pub mod Worked

@@ -1,5 +1,6 @@
 pub mod Checking
 pub mod Cudf
+pub mod Examples
 pub mod Feeding
 pub mod Meaning
 pub mod Naming

@@ -5,16 +5,18 @@
 -- ofStanza: the clauses of a stanza: its conjuncts, then its conflicts with each other stanza
 -- planClauses: those of each stanza, then those of the install items, then those of the remove items
 -- firstFalse: the number, from 1, of the first clause that is false
--- PlansAgree: a set makes every plan clause true just if it is a plan
+-- FirstFalse: the clause of a number is false, and all before it are true
+-- PlansAgree: a set makes every plan clause true just if it is a plan; else the first false one is what its name says
 use mathlib.Core.Path.{_≡_}
-use mathlib.Core.Bool.{cond, not}
+use mathlib.Core.Bool.{true, false, cond, not}
 use mathlib.Core.List.{List, [], _∷_, _++_}
 use mathlib.Core.Logic.{_↔_}
-use Prim.Native.Nat.{ℕ, suc}
+use Prim.Native.Nat.{ℕ, suc, _-_, _≤_}
 use lib.Dec.{eqb, ltb, T}
+use lib.ListN.{length, getD, take}
 use Rattle.std.specs.declared.option.Option.{Option}
 use Rattle.std.specs.declared.option.Option.the-variants.{Some, None}
-use Rattle.text.specs.Lists.{each, eachAll, keep, some, every}
+use Rattle.text.specs.Lists.{each, eachAll, keep, some, every, Each}
 use Rattle.text.specs.Literals.{lit, neg, Clause, Truth, makesTrue}
 use Rattle.problem.specs.Cudf.{Problem, Constraint, Numbered, stanzas, Chosen, satisfiesOne, PlanOverSets}
 
@@ -53,6 +55,13 @@ firstFalseFrom n s (c ∷ cs) = cond (makesTrue s c) (firstFalseFrom (suc n) s c
 abbrev pub firstFalse : Truth → List Clause → Option ℕ
 firstFalse s cs = firstFalseFrom 1 s cs
 
+pub record FirstFalse (s : Truth) (cs : List Clause) (n : ℕ) : Type 0 where
+  pub least : 1 ≤ n
+  pub most : n ≤ length cs
+  pub here : makesTrue s (getD cs (n - 1) []) ≡ false
+  pub before : Each (λ c. makesTrue s c ≡ true) (take (n - 1) cs)
+
 pub record PlansAgree : Type 0 where
   pub clauses : (q : Problem) (s : Chosen) → T (every (makesTrue s) (planClauses q)) ↔ PlanOverSets q s
   pub none : (q : Problem) (s : Chosen) → (firstFalse s (planClauses q) ≡ None) ↔ PlanOverSets q s
+  pub first : (s : Chosen) (cs : List Clause) (n : ℕ) → firstFalse s cs ≡ Some n → FirstFalse s cs n

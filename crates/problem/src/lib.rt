@@ -3,7 +3,7 @@ pub mod counts;
 pub mod plan_check;
 pub mod plan_clauses;
 pub mod rows;
-pub mod satisfy;
+mod satisfy;
 pub mod sink;
 pub mod standing;
 pub mod view;

@@ -1,7 +1,10 @@
 //! Whether a set is a plan.
 ghost use mathlib.Core.Path.{_≡_};
+ghost use lib.ListN.{length};
+ghost use Rattle.text.specs.Lists.{Each};
 ghost use Rattle.text.specs.Literals.{isTrue, makesTrue};
 ghost use Rattle.problem.specs.Checking.{passes, fails, Checks};
+ghost use Rattle.problem.specs.Examples.{Stands, cases};
 ghost use Rattle.problem.specs.Meaning.{problemOf};
 ghost use Rattle.problem.specs.PlanClauses.{PlansAgree};
 ghost use Rattle.problem.specs.Sets.{setOf};
@@ -71,4 +74,13 @@ fn is_true(set: &[Standing], literal: i32) -> bool
     let number = literal.unsigned_abs() as usize;
     let chosen = is_chosen(set, number.saturating_sub(1));
     if literal < 0 { !chosen } else { chosen }
+}
+
+/// How many worked examples there are. Each of them stands: its plan clauses, the first of them that its set makes
+/// false, and its counts are as stated.
+pub fn worked_examples() -> usize
+    ensures count { λ r. ⌜ r ≡ length cases ⌝ }
+    ensures stand { λ _. ⌜ Each Stands cases ⌝ }
+{
+    4
 }

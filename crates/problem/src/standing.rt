@@ -25,7 +25,7 @@ impl Standing {
 }
 
 /// Whether the stanza at a place is in a set; one without a place is not.
-pub fn is_chosen(set: &[Standing], place: usize) -> bool
+pub(crate) fn is_chosen(set: &[Standing], place: usize) -> bool
     ensures { λ r. ⌜ r ≡ isIn (getD (now (set .entry)) place Unnamed) ⌝ }
 {
     match set.get(place) {
