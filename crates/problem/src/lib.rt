@@ -1,14 +1,20 @@
 //! Problems and answers: reading them, what a plan is, and its counts.
 mod constraint;
+pub mod counts;
 mod draft;
 pub mod fault;
 mod head;
 mod keys;
 mod lines;
 mod lists;
+pub mod plan_check;
+pub mod plan_clauses;
 pub mod read;
 mod repeats;
 pub mod rows;
+mod satisfy;
 mod section;
+pub mod sink;
+pub mod standing;
 pub mod view;
 mod wanted;

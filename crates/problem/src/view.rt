@@ -9,6 +9,7 @@ use crate::rows::PackageRow;
 use crate::rows::Span;
 
 pub mod parts;
+pub mod reads;
 
 /// The most package stanzas of a problem.
 pub const PACKAGES_MOST: usize = 256;

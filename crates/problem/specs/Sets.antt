@@ -1,0 +1,18 @@
+-- The set of packages that an answer means.
+-- isIn: whether a stanza is installed
+-- setOf: the stanzas that are, by their numbers, from 1; one without a place is not
+use mathlib.Core.Bool.{Bool, true, false}
+use mathlib.Core.List.{List}
+use Prim.Native.Nat.{ℕ, _-_}
+use lib.ListN.{getD}
+use Rattle.problem.specs.Cudf.{Chosen}
+use Rattle.problem.specs.declared.standing.Standing.{Standing}
+use Rattle.problem.specs.declared.standing.Standing.the-variants.{Unnamed, Out, In}
+
+abbrev pub isIn : Standing → Bool
+isIn Unnamed = false
+isIn Out = false
+isIn In = true
+
+abbrev pub setOf : List Standing → Chosen
+setOf xs v = isIn (getD xs (v - 1) Unnamed)
