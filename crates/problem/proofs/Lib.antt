@@ -1,5 +1,6 @@
 pub mod Again
 pub mod Agreement
+pub mod Answering
 pub mod Checked
 pub mod Closing
 pub mod Concluding
@@ -8,6 +9,7 @@ pub mod Denials
 pub mod Drafting
 pub mod Feeds
 pub mod Few
+pub mod Finding
 pub mod Growing
 pub mod Holding
 pub mod Lining

@@ -1,3 +1,5 @@
+pub mod AnswerCalls
+pub mod Answers
 pub mod Checking
 pub mod ConstraintLists
 pub mod Cudf

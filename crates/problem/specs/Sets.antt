@@ -1,5 +1,5 @@
 -- The set of packages that an answer means.
--- isIn: whether a stanza is installed
+-- isIn: whether a stanza is installed; isUnnamed: whether it is not named; standing: what is said of one that is
 -- setOf: the stanzas that are, by their numbers, from 1; one without a place is not
 use mathlib.Core.Bool.{Bool, true, false}
 use mathlib.Core.List.{List}
@@ -16,3 +16,12 @@ isIn In = true
 
 abbrev pub setOf : List Standing → Chosen
 setOf xs v = isIn (getD xs (v - 1) Unnamed)
+
+abbrev pub isUnnamed : Standing → Bool
+isUnnamed Unnamed = true
+isUnnamed Out = false
+isUnnamed In = false
+
+abbrev pub standing : Bool → Standing
+standing true = In
+standing false = Out

@@ -1,7 +1,7 @@
 //! What an answer says of a package stanza.
 ghost use mathlib.Core.Path.{_≡_};
 ghost use lib.ListN.{getD};
-ghost use Rattle.problem.specs.Sets.{isIn};
+ghost use Rattle.problem.specs.Sets.{isIn, isUnnamed, standing};
 ghost use Rattle.problem.specs.declared.standing.Standing.the-variants.{Unnamed};
 
 /// Not named, named and not installed, or installed.
@@ -13,6 +13,27 @@ pub enum Standing {
 }
 
 impl Standing {
+    /// What is said of a stanza that is named.
+    pub fn of(installed: bool) -> Standing
+        ensures { λ r. ⌜ r ≡ standing installed ⌝ }
+    {
+        if installed {
+            Standing::In
+        } else {
+            Standing::Out
+        }
+    }
+
+    /// Whether the stanza is not named.
+    pub fn is_unnamed(self) -> bool
+        ensures { λ r. ⌜ r ≡ isUnnamed self ⌝ }
+    {
+        match self {
+            Standing::Unnamed => true,
+            Standing::Out | Standing::In => false,
+        }
+    }
+
     /// Whether the stanza is installed.
     pub fn is_in(self) -> bool
         ensures { λ r. ⌜ r ≡ isIn self ⌝ }
