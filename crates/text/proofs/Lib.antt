@@ -8,3 +8,4 @@ pub mod Spans
 pub mod Trims
 pub mod Values
 pub mod Whole
+pub mod Writing

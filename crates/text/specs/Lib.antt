@@ -1,3 +1,4 @@
+pub mod Appends
 pub mod Decimal
 pub mod Doc
 pub mod Left
