@@ -12,8 +12,9 @@ use Rattle.std.specs.declared.option.Option.the-variants.{Some, None}
 use Rattle.text.specs.Lists.{each, eachAll, keep, some, every, Each}
 use Rattle.problem.specs.Cudf.{Problem, Constraint, Numbered, stanzas, satisfies, Chosen, chosen, satisfiesOne, PlanOverSets}
 use Rattle.text.specs.Literals.{Clause, lit, neg, isTrue, makesTrue}
-use Rattle.problem.specs.PlanClauses.{put, needs, meeting, notBoth, ofConflict, ofStanza, ofInstall, ofRemove, planClauses, firstFalseFrom, firstFalse, PlansAgree}
+use Rattle.problem.specs.PlanClauses.{put, needs, meeting, notBoth, ofConflict, ofStanza, ofInstall, ofRemove, planClauses, firstFalseFrom, PlansAgree}
 use Rattle.text.proofs.Members.{each-from-every, every-from-each, each-weaker, each-append, each-left, each-right}
+use Rattle.problem.proofs.Walks.{some-of-each, or-none}
 use Rattle.problem.proofs.Numbers.{back, stanzas-from-one}
 
 abbrev True : Chosen → Clause → Type 0
@@ -77,14 +78,6 @@ some-swap p t (x ∷ xs) = pick (p x) (t x) refl refl (some-swap p t xs)
     pick false true e f g = ap (λ y. y || some p (keep t xs)) e ∙ g
     pick false false e f g = g
 
-some-each : {X Y : Type 0} (p : Y → Bool) (f : X → Y) (xs : List X) → some p (each f xs) ≡ some (λ x. p (f x)) xs
-some-each p f [] = refl
-some-each p f (x ∷ xs) = ap (λ y. p (f x) || y) (some-each p f xs)
-
-or-none : (a : Bool) → (a || false) ≡ a
-or-none true = refl
-or-none false = refl
-
 module _ (s : Chosen) where
   no-is : (v : ℕ) → 1 ≤ v → isTrue s (neg v) ≡ not (s v)
   no-is v h = ap (λ w. not (s w)) (back v h)
@@ -98,7 +91,7 @@ module _ (s : Chosen) where
   put-is i [] h = ap (λ y. y || false) (no-is i h)
   put-is i (j ∷ js) h =
       elim (ltb i j) as (λ b. makesTrue s (cond b (neg i ∷ each lit (j ∷ js)) (lit j ∷ put i js)) ≡ (not (s i) || (s j || some s js))) [
-        | true ↦ ap (λ y. y || some (isTrue s) (each lit (j ∷ js))) (no-is i h) ∙ ap (λ y. not (s i) || y) (some-each (isTrue s) lit (j ∷ js))
+        | true ↦ ap (λ y. y || some (isTrue s) (each lit (j ∷ js))) (no-is i h) ∙ ap (λ y. not (s i) || y) (some-of-each (isTrue s) lit (j ∷ js))
         | false ↦ ap (λ y. s j || y) (put-is i js h) ∙ swap-or (s j) (not (s i)) (some s js)
       ]
 
@@ -159,7 +152,7 @@ module _ (s : Chosen) where
     Ok′ i = 1 ≤ i .number
 
     met-is : (cs : List Constraint) → some s (meeting q cs) ≡ some (satisfiesOne cs) (chosen q s)
-    met-is cs = some-each s (λ k. k .number) (keep (satisfiesOne cs) (stanzas q)) ∙ some-swap (λ k. s (k .number)) (satisfiesOne cs) (stanzas q)
+    met-is cs = some-of-each s (λ k. k .number) (keep (satisfiesOne cs) (stanzas q)) ∙ some-swap (λ k. s (k .number)) (satisfiesOne cs) (stanzas q)
 
     -- what holds of each number that meets a constraint
     meeting-iff : (c : Constraint) (P Q : ℕ → Type 0) → ((j : Numbered) → Ok′ j → P (j .number) ↔ Q (j .number)) →
@@ -246,7 +239,7 @@ module _ (s : Chosen) where
     install-iff =
         Iff·trans (map-iff (True s) (λ c. each lit (meeting q (c ∷ []))) (q .install))
         (each-since-iff (λ c. True s (each lit (meeting q (c ∷ [])))) (λ c. T (some (λ j. satisfies c (j .stanza)) (chosen q s)))
-        (λ c. bool-iff (some-each (isTrue s) lit (meeting q (c ∷ [])) ∙ met-is (c ∷ []) ∙ some-same (satisfiesOne (c ∷ [])) (λ j. satisfies c (j .stanza)) (λ j. or-none (satisfies c (j .stanza))) (chosen q s))) (q .install))
+        (λ c. bool-iff (some-of-each (isTrue s) lit (meeting q (c ∷ [])) ∙ met-is (c ∷ []) ∙ some-same (satisfiesOne (c ∷ [])) (λ j. satisfies c (j .stanza)) (λ j. or-none (satisfies c (j .stanza))) (chosen q s))) (q .install))
       where
         some-same : {X : Type 0} (p t : X → Bool) → ((x : X) → p x ≡ t x) → (xs : List X) → some p xs ≡ some t xs
         some-same p t f [] = refl

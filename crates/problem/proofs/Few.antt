@@ -1,5 +1,4 @@
 -- A problem has fewer plan clauses than a number of 32 bits can count.
-use mathlib.Core.Path.{_≡_, refl, ap, sym, _∙_}
 use mathlib.Core.Bool.{Bool, true, false, cond, not}
 use mathlib.Core.List.{List, [], _∷_, _++_}
 use Prim.Native.Nat.{ℕ, suc, _+_, _*_, _<_, _≤_}
@@ -7,9 +6,8 @@ use native.Mathlib.Nat.{suc-mul}
 use native.Mathlib.Omega.{arith}
 use denote.Ref.{now}
 use lib.Dec.{eqb}
-use lib.ListN.{length, take, drop}
-use Rattle.std.specs.shelf.Lists.{kept-by}
-use Rattle.std.proofs.shelf.Lists.{length-append, length-map, length-take, length-drop, length-take-le}
+use lib.ListN.{length, drop}
+use Rattle.std.proofs.shelf.Lists.{length-append, length-map, length-take, length-drop}
 use Rattle.std.proofs.shelf.Sums.{length-kept-by, countBy-le-length}
 use Rattle.text.specs.Lists.{each, eachAll, keep, some, Each}
 use Rattle.text.specs.Literals.{Clause, neg}

@@ -1,18 +1,17 @@
 -- The plan clauses of a problem in words, by tests on its rows.
 use mathlib.Core.Path.{_≡_, refl, ap, sym, subst, _∙_}
-use mathlib.Core.Bool.{Bool, true, false, cond, _||_}
+use mathlib.Core.Bool.{Bool, true, false, cond}
 use mathlib.Core.List.{List, [], _∷_, _++_}
-use Prim.Native.Nat.{ℕ, zero, suc, _+_, _<_, _≤_}
+use Prim.Native.Nat.{ℕ, suc, _+_, _<_, _≤_}
 use denote.Ref.{now}
-use native.Mathlib.Nat.{add-zero}
 use native.Mathlib.Omega.{arith}
 use lib.ListN.{length, getD, drop}
 use Rattle.std.specs.declared.option.Option.the-variants.{Some, None}
 use Rattle.std.proofs.shelf.Lists.{getD-map, length-map, length-take-le}
 use Rattle.std.proofs.shelf.Tests.{true≢false, false≢true}
-use Rattle.text.specs.Lists.{each, eachAll, keep, some}
+use Rattle.text.specs.Lists.{each, eachAll, keep}
 use Rattle.text.specs.Literals.{Clause, lit}
-use Rattle.problem.specs.Cudf.{Package, Numbered, numbered, satisfiesOne, stanzas}
+use Rattle.problem.specs.Cudf.{Numbered, numbered, satisfiesOne, stanzas}
 use Rattle.problem.specs.Feeding.{Fed, Left}
 use Rattle.problem.specs.Meaning.{constraintOf, packageOf, conjuncts, inWords, packagesIn, constraintsIn, problemOf}
 use Rattle.problem.specs.PlanClauses.{needs, meeting, ofStanza, ofConflict, ofInstall, ofRemove}
@@ -23,6 +22,8 @@ use Rattle.problem.specs.declared.rows.PackageRow.{PackageRow}
 use Rattle.problem.specs.declared.rows.ConstraintRow.{ConstraintRow}
 use Rattle.problem.specs.declared.view.Problem.{Problem as View}
 use Rattle.problem.proofs.Feeds.{walk-more, walk-stop, walk-all}
+use Rattle.problem.proofs.Numbers.{numbered-at, numbered-length}
+use Rattle.problem.proofs.Walks.{some-of-each, or-none}
 
 -- lists made from each member of a list that is made from each member
 all-of-each : {X Y Z : Type 0} (f : Y → List Z) (g : X → Y) (h : X → List Z) → ((x : X) → f (g x) ≡ h x) → (xs : List X) → eachAll f (each g xs) ≡ eachAll h xs
@@ -33,18 +34,10 @@ each-of-each : {X Y Z : Type 0} (f : Y → Z) (g : X → Y) (h : X → Z) → ((
 each-of-each f g h e [] = refl
 each-of-each f g h e (x ∷ xs) = ap (λ y. y ∷ each f (each g xs)) (e x) ∙ ap (λ ys. h x ∷ ys) (each-of-each f g h e xs)
 
-some-of-each : {X Y : Type 0} (t : Y → Bool) (g : X → Y) (xs : List X) → some t (each g xs) ≡ some (λ x. t (g x)) xs
-some-of-each t g [] = refl
-some-of-each t g (x ∷ xs) = ap (λ b. t (g x) || b) (some-of-each t g xs)
-
 passing-same : (t u : PackageRow → Bool) → ((p : PackageRow) → t p ≡ u p) → (b : ℕ) (ps : List PackageRow) → passing t b ps ≡ passing u b ps
 passing-same t u e b [] = refl
 passing-same t u e b (p ∷ ps) =
     ap (λ y. cond y (suc b ∷ passing t (suc b) ps) (passing t (suc b) ps)) (e p) ∙ ap (λ js. cond (u p) (suc b ∷ js) js) (passing-same t u e (suc b) ps)
-
-or-none : (b : Bool) → (b || false) ≡ b
-or-none true = refl
-or-none false = refl
 
 module _ (text : List ℕ) (cs : List ConstraintRow) where
   numbers : (group : List ConstraintRow) (b : ℕ) (ps : List PackageRow) →
@@ -84,15 +77,6 @@ module _ (text : List ℕ) (cs : List ConstraintRow) where
     pub remove-clauses : (rows : List ConstraintRow) →
         eachAll (ofRemove (inWords text ps cs install remove)) (each (constraintOf text) rows) ≡ eachAll (λ c. denials None (passing (rowSatisfies text c) 0 ps)) rows
     remove-clauses rows = all-of-each _ _ _ (λ c. ap (denials None) (meets-one c)) rows
-
-numbered-at : (k i : ℕ) (ps : List Package) (d : Numbered) (e : Package) → i < length ps → getD (numbered k ps) i d ≡ record { number = k + i; stanza = getD ps i e }
-numbered-at k i [] d e l = absurd (omega arith)
-numbered-at k zero (p ∷ ps) d e l = ap (λ n. record { number = n; stanza = p }) (sym (add-zero k))
-numbered-at k (suc i) (p ∷ ps) d e l = numbered-at (suc k) i ps d e (omega arith) ∙ ap (λ n. record { number = n; stanza = getD ps i e }) (omega arith)
-
-numbered-length : (k : ℕ) (ps : List Package) → length (numbered k ps) ≡ length ps
-numbered-length k [] = refl
-numbered-length k (p ∷ ps) = ap suc (numbered-length (suc k) ps)
 
 pub stanzas-length : (v : View) → length (stanzas (problemOf v)) ≡ length (packagesIn v)
 stanzas-length v = numbered-length 1 _ ∙ length-map (packagesIn v) _

@@ -1,5 +1,5 @@
 -- The walk over the names of package rows, and what it comes to in words.
-use mathlib.Core.Path.{_≡_, refl, ap, sym, subst, _∙_}
+use mathlib.Core.Path.{_≡_, refl, ap, sym, _∙_}
 use mathlib.Core.Bool.{Bool, true, false, cond, not, _&&_, _||_}
 use mathlib.Core.List.{List, [], _∷_, _++_}
 use Prim.Native.Nat.{ℕ, suc, _+_, _-_, _<_, _≤_}
@@ -11,7 +11,7 @@ use Rattle.std.proofs.shelf.Equals.{sameBytes-decides}
 use Rattle.std.proofs.shelf.Lists.{drop-more, drop-all, map-more}
 use Rattle.text.specs.Lists.{each, keep, some, howMany}
 use Rattle.text.specs.Word.{wordIn}
-use Rattle.problem.specs.Cudf.{Problem, Numbered, numbered, stanzas, seenIn, namesFrom, names, versionsOf, isRemoved, isChanged, removedCount, changedCount}
+use Rattle.problem.specs.Cudf.{Numbered, numbered, seenIn, namesFrom, names, versionsOf, isRemoved, isChanged, removedCount, changedCount}
 use Rattle.problem.specs.Meaning.{packageOf, packagesIn, constraintsIn, problemOf}
 use Rattle.problem.specs.Naming.{marked, someVersion, affected, named, rowNames}
 use Rattle.problem.specs.Sets.{isIn, setOf}
@@ -24,6 +24,7 @@ use Rattle.problem.specs.declared.rows.ConstraintRow.{ConstraintRow}
 use Rattle.problem.specs.declared.standing.Standing.{Standing}
 use Rattle.problem.specs.declared.standing.Standing.the-variants.{Unnamed}
 use Rattle.problem.specs.declared.view.Problem.{Problem as View}
+use Rattle.problem.proofs.Walks.{some-of-each}
 
 -- the walk over the versions of a name
 module _ (text : List ℕ) (set : List Standing) (m : Mark) (n : List ℕ) (ps : List PackageRow) (i : ℕ) where
@@ -62,10 +63,6 @@ seen-again m n a h = seen-pushed m n a ∙ pick (sameBytes m n) refl
     pick : (b : Bool) → sameBytes m n ≡ b → (b || seenIn m a) ≡ seenIn m a
     pick true e = sym (ap (λ k. seenIn k a) (sameBytes-decides m n .0 e) ∙ h)
     pick false e = refl
-
-some-of-each : {X Y : Type 0} (t : Y → Bool) (g : X → Y) (xs : List X) → some t (each g xs) ≡ some (λ x. t (g x)) xs
-some-of-each t g [] = refl
-some-of-each t g (x ∷ xs) = ap (λ b. t (g x) || b) (some-of-each t g xs)
 
 module _ (text : List ℕ) (t : List ℕ → Bool) (ps : List PackageRow) (i : ℕ) (d : PackageRow) (l : i < length ps) where
   abbrev nameOf : PackageRow → List ℕ

@@ -2,7 +2,7 @@
 use mathlib.Core.Path.{_≡_, sym, ap, subst, _∙_}
 use mathlib.Core.List.{List}
 use Prim.Native.Nat.{ℕ, _+_, _<_, _≤_}
-use lib.ListN.{length, take, getD}
+use lib.ListN.{take, getD}
 use Rattle.std.proofs.shelf.Lists.{getD-take}
 use Rattle.problem.specs.Rows.{Spanned, noPackage}
 use Rattle.problem.specs.declared.rows.Span.{Span}

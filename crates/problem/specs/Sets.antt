@@ -3,7 +3,7 @@
 -- setOf: the stanzas that are, by their numbers, from 1; one without a place is not
 use mathlib.Core.Bool.{Bool, true, false}
 use mathlib.Core.List.{List}
-use Prim.Native.Nat.{ℕ, _-_}
+use Prim.Native.Nat.{_-_}
 use lib.ListN.{getD}
 use Rattle.problem.specs.Cudf.{Chosen}
 use Rattle.problem.specs.declared.standing.Standing.{Standing}

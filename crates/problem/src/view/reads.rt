@@ -1,6 +1,6 @@
 //! The rows and the document of a problem.
 ghost use mathlib.Core.Path.{_≡_};
-ghost use Prim.Native.Nat.{_<_, _≤_};
+ghost use Prim.Native.Nat.{_<_};
 ghost use lib.ListN.{length, getD};
 ghost use Rattle.problem.specs.Meaning.{packagesIn, constraintsIn};
 ghost use Rattle.problem.specs.Rows.{spanIn, Spanned, noPackage};

@@ -1,6 +1,5 @@
-use mathlib.Core.Path.{refl, sym, ap, _∙_}
+use mathlib.Core.Path.{ap, _∙_}
 use native.Mathlib.Omega.{arith}
-use mathlib.Core.List.{_++_}
 use lib.ListN.{length}
 use Rattle.problem.proofs.Feeds.{fed-written}
 use Rattle.problem.proofs.plan_clauses.feed_install.Needs as need

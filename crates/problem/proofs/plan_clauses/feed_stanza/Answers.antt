@@ -1,5 +1,5 @@
 use mathlib.Core.Path.{_∙_}
-use Rattle.problem.proofs.Feeds.{fed-as, fed-on-as, fed-stop-as}
+use Rattle.problem.proofs.Feeds.{fed-on-as, fed-stop-as}
 use Rattle.problem.proofs.Meets.{depends-are, conflicts-are}
 use Rattle.problem.proofs.plan_clauses.feed_stanza.Needs as need
 
