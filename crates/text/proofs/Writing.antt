@@ -38,3 +38,11 @@ only-row r s y xs o e p = last-row r r s [] y xs o (sym (append-nil (items r))) 
 -- fewer digits that did not fit
 pub digits-full : {U F : Type 0} (r s t : Rows ℕ) (n : ℕ) (o : Result U F) (e : F) → 10 ≤ n → n < 2 ^ 64 → o ≡ Err e → room r < length (items r) + length (decimal (n / 10)) → Appends r (decimal n) o t
 digits-full r s t n o e l u q h = appends-err r t (decimal n) o e q (omega (arith, ap length (decimal-step n l u), length-push (decimal (n / 10)) (48 + n % 10)))
+
+-- one piece of writing after another
+pub appends-then : {T U F : Type 0} (r mid s : Rows T) (xs ys : List T) (o : Result U F) → items mid ≡ items r ++ xs → Same r mid → Appends mid ys o s → Appends r (xs ++ ys) o s
+appends-then r mid s xs ys (Ok u) h m k = k ∙ ap (λ t. t ++ ys) h ∙ append-assoc (items r) xs ys
+appends-then r mid s xs ys (Err e) h m k = omega (arith, ap length h, length-append (items r) xs, length-append xs ys, m .room, k)
+
+pub appends-less : {T U F : Type 0} (r s : Rows T) (xs ys : List T) (o : Result U F) (e : F) → o ≡ Err e → room r < length (items r) + length xs → Appends r (xs ++ ys) o s
+appends-less r s xs ys o e q h = appends-err r s (xs ++ ys) o e q (omega (arith, length-append xs ys))
