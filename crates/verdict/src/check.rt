@@ -112,14 +112,7 @@ fn judge_files(
     ensures { λ r. ⌜ r ≡ judged (record { packages = length (now (packages .entry)); constraints = length (now (constraints .entry)); table = length (now (table .entry)) }) (now (problem .entry)) (now (answer .entry)) (now (certificate .entry)) ⌝ }
 {
     check_lengths(problem, answer, certificate)?;
-    judge(
-        problem,
-        answer,
-        certificate,
-        packages,
-        constraints,
-        table,
-    )
+    judge(problem, answer, certificate, packages, constraints, table)
 }
 
 /// The line that three files come to, or nothing where a certificate would have to be checked. The memory is then all
@@ -138,14 +131,7 @@ pub fn check(
     ensures constraints { λ _. ⌜ now (constraints .exit) ≡ replicate (length (now (constraints .entry))) noConstraint ⌝ }
     ensures table { λ _. ⌜ now (table .exit) ≡ replicate (length (now (table .entry))) Unnamed ⌝ }
 {
-    let judgement = judge_files(
-        problem,
-        answer,
-        certificate,
-        packages,
-        constraints,
-        table,
-    );
+    let judgement = judge_files(problem, answer, certificate, packages, constraints, table);
     packages.fill(NO_PACKAGE);
     constraints.fill(NO_CONSTRAINT);
     table.fill(Standing::Unnamed);
