@@ -1,3 +1,5 @@
+pub mod Hinted
+pub mod HintedState
 pub mod Reading
 pub mod Refusal
 pub mod Stream

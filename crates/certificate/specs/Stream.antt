@@ -4,10 +4,15 @@
 -- Ending: the end, or a form that cannot be read, at its place
 -- Stream: steps, and then an ending
 -- onTop: a stream with a step more; ended, unreadable: a stream with no steps, one that cannot be read at a place
+-- whilePlaces: that a step has a place only after fewer than so many others
 -- numbered: steps at the places after a number
+-- orUnreadable, then: what an optional value gives
+use mathlib.Core.Bool.{cond}
 use mathlib.Core.List.{List, [], _∷_}
 use Prim.Native.Nat.{ℕ, suc}
+use lib.Dec.{ltb}
 use Rattle.std.specs.declared.option.Option.{Option}
+use Rattle.std.specs.declared.option.Option.the-variants.{Some, None}
 use Rattle.text.specs.Literals.{Clause}
 
 pub data Step : Type 0 where
@@ -35,6 +40,17 @@ ended e = record { steps = []; ending = e }
 abbrev pub unreadable : ℕ → Stream
 unreadable p = ended (broken p)
 
+abbrev pub whilePlaces : ℕ → Stream → Stream
+whilePlaces n s = cond (ltb n 4294967294) s (unreadable 4294967295)
+
 abbrev pub numbered : ℕ → List Step → List Placed
 numbered n [] = []
 numbered n (s ∷ ss) = record { place = suc n; step = s } ∷ numbered (suc n) ss
+
+abbrev pub orUnreadable : {X : Type 0} → ℕ → Option X → (X → Stream) → Stream
+orUnreadable p None f = unreadable p
+orUnreadable p (Some x) f = f x
+
+abbrev pub then : {X Y : Type 0} → Option X → (X → Option Y) → Option Y
+then None f = None
+then (Some x) f = f x

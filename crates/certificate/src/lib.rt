@@ -1,4 +1,7 @@
 //! Certificates: what a solver hands over, as steps.
 pub mod fault;
 pub mod found;
+pub mod hinted;
+mod record;
 pub mod source;
+mod words;
