@@ -1,7 +1,7 @@
 -- A loop over numbers of four bytes each.
 use mathlib.Core.Path.{_≡_, refl, ap, sym, _∙_}
 use mathlib.Core.List.{List, [], _∷_, _++_}
-use Prim.Native.Nat.{ℕ, suc, _+_, _-_, _<_, _≤_}
+use Prim.Native.Nat.{ℕ, suc, _+_, _-_, _/_, _<_, _≤_}
 use lib.ListN.{length, getD, take, drop, length-append}
 use native.Mathlib.Omega.{arith}
 use Rattle.std.proofs.shelf.Lists.{take-rest, append-assoc, append-nil}
@@ -45,3 +45,10 @@ words-fit f bs cs xs ys n l e m h =
 pub each-same : (xs : List ℕ) → each (λ n. n) xs ≡ xs
 each-same [] = refl
 each-same (x ∷ xs) = ap (λ ys. x ∷ ys) (each-same xs)
+
+pub length-words : (bs : List ℕ) → length (words bs) ≡ length bs / 4
+length-words [] = refl
+length-words (a ∷ []) = refl
+length-words (a ∷ b ∷ []) = refl
+length-words (a ∷ b ∷ c ∷ []) = refl
+length-words (a ∷ b ∷ c ∷ d ∷ bs) = let h = length-words bs in omega arith

@@ -1,2 +1,5 @@
-pub mod Records
+pub mod Answering
 pub mod FourBytes
+pub mod Kept
+pub mod Records
+pub mod Unread

@@ -3,8 +3,10 @@
 -- shapeOf: how a step stands in memory; stepIn: the step that stands in memory so
 -- literalsIn, hintsIn: how many of them stand first
 -- standing: numbers first in memory for so many of them, zeros after them
+-- literalsKept, hintsKept: what the memory holds for a step, all zero unless it fits; shapeIn: its shape, if it fits
 -- literalsRead, hintsRead: what the memory holds after a reading, all zero unless a step was read
--- Leaves: that it holds this; Reads: the answer, and what the source still has after it
+-- Holds, Leaves: that it holds this; Reads: the answer, and what the source still has after it
+-- answered: the answer where no step is left
 use mathlib.Core.Path.{_≡_}
 use mathlib.Core.Bool.{Bool, true, cond, not, _&&_}
 use mathlib.Core.List.{List, [], _∷_, _++_}
@@ -21,7 +23,7 @@ use Rattle.certificate.specs.declared.fault.SourceFault.the-variants.{Form, To
 use Rattle.certificate.specs.declared.found.Shape.{Shape}
 use Rattle.certificate.specs.declared.found.Shape.the-variants.{Add, AddHinted, Delete}
 use Rattle.certificate.specs.declared.found.Found.{Found}
-use Rattle.certificate.specs.Stream.{Step, add, delete, Placed, finished, broken, Stream, onTop}
+use Rattle.certificate.specs.Stream.{Step, add, delete, Placed, Ending, finished, broken, Stream, onTop}
 
 pub record Memory : Type 0 where
   pub literals : ℕ
@@ -67,13 +69,26 @@ stepIn (Delete n) ls hs = delete n
 abbrev pub standing : {X : Type 0} → X → ℕ → List X → List X
 standing z n xs = xs ++ replicate (n - length xs) z
 
+abbrev pub shapeIn : Memory → Step → Option Shape
+shapeIn k t = cond (inMemory k t) (Some (shapeOf t)) None
+
+abbrev pub literalsKept : Memory → Step → List ℤ
+literalsKept k t = standing (pos 0) (k .literals) (cond (inMemory k t) (literalsOf t) [])
+
+abbrev pub hintsKept : Memory → Step → List ℕ
+hintsKept k t = standing 0 (k .hints) (cond (inMemory k t) (hintsOf t) [])
+
+pub record Holds (k : Memory) (t : Step) (ls : List ℤ) (hs : List ℕ) : Type 0 where
+  pub literals : ls ≡ literalsKept k t
+  pub hints : hs ≡ hintsKept k t
+
 abbrev pub literalsRead : Memory → List Placed → List ℤ
 literalsRead k [] = standing (pos 0) (k .literals) []
-literalsRead k (p ∷ ps) = standing (pos 0) (k .literals) (cond (inMemory k (p .step)) (literalsOf (p .step)) [])
+literalsRead k (p ∷ ps) = literalsKept k (p .step)
 
 abbrev pub hintsRead : Memory → List Placed → List ℕ
 hintsRead k [] = standing 0 (k .hints) []
-hintsRead k (p ∷ ps) = standing 0 (k .hints) (cond (inMemory k (p .step)) (hintsOf (p .step)) [])
+hintsRead k (p ∷ ps) = hintsKept k (p .step)
 
 pub record Leaves (k : Memory) (ps : List Placed) (ls : List ℤ) (hs : List ℕ) : Type 0 where
   pub literals : ls ≡ literalsRead k ps
@@ -89,3 +104,7 @@ Reads s (Ok None) s' ls hs = (s .steps ≡ []) × (s .ending ≡ finished) × (s
 Reads s (Err (Form p)) s' ls hs = (s .steps ≡ []) × (s .ending ≡ broken p) × (s' ≡ s)
 Reads s (Err (TooMany p)) s' ls hs =
     (t : Step) × ((s ≡ onTop (record { place = p; step = t }) s') × T (not (inMemory (memoryOf ls hs) t)))
+
+abbrev pub answered : Ending → Result (Option Found) SourceFault
+answered finished = Ok None
+answered (broken p) = Err (Form p)

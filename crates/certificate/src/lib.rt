@@ -2,6 +2,7 @@
 pub mod fault;
 pub mod found;
 pub mod hinted;
+mod memory;
 mod record;
 pub mod source;
 mod words;

@@ -1,8 +1,13 @@
 //! The records of the hinted form.
 ghost use mathlib.Core.Path.{_≡_};
 ghost use Rattle.std.specs.Options.{mapped};
-ghost use Rattle.certificate.specs.Hinted.{counted, additionEntry, entry};
-ghost use Rattle.certificate.specs.HintedState.{shown, entryOf};
+ghost use Rattle.certificate.specs.Hinted.{counted, hintedAddition, additionEntry, entry};
+ghost use Rattle.certificate.specs.HintedState.{shown, stepOf, entryOf};
+ghost use Rattle.certificate.specs.Reading.{Holds, memoryOf, shapeIn};
+use crate::found::Shape;
+use crate::memory::blank;
+use crate::words::put_hints;
+use crate::words::put_literals;
 
 /// The most literals that a clause has.
 pub const LITERALS: u16 = 512;
@@ -40,6 +45,41 @@ pub fn first_record(bytes: &[u8]) -> Option<Record<'_>>
         }),
         _ => None,
     }
+}
+
+/// Puts the numbers of a step into the memory lent, if they fit.
+pub fn put_step(step: Entry<'_>, literals: &mut [i32], hints: &mut [u32]) -> Option<Shape>
+    ensures shape { λ r. ⌜ r ≡ shapeIn (memoryOf (now (literals .entry)) (now (hints .entry))) (stepOf (step .entry)) ⌝ }
+    ensures memory { λ _. ⌜ Holds (memoryOf (now (literals .entry)) (now (hints .entry))) (stepOf (step .entry)) (now (literals .exit)) (now (hints .exit)) ⌝ }
+{
+    match step {
+        Entry::Add(clause, chain) => put_addition(clause, chain, literals, hints),
+        Entry::Delete(number) => {
+            blank(literals, hints);
+            Some(Shape::Delete(number))
+        }
+    }
+}
+
+/// Puts literals and hints into the memory lent, if they fit.
+fn put_addition(
+    clause: &[u8],
+    chain: &[u8],
+    literals: &mut [i32],
+    hints: &mut [u32],
+) -> Option<Shape>
+    ensures shape { λ r. ⌜ r ≡ shapeIn (memoryOf (now (literals .entry)) (now (hints .entry))) (hintedAddition (now (clause .entry)) (now (chain .entry))) ⌝ }
+    ensures memory { λ _. ⌜ Holds (memoryOf (now (literals .entry)) (now (hints .entry))) (hintedAddition (now (clause .entry)) (now (chain .entry))) (now (literals .exit)) (now (hints .exit)) ⌝ }
+{
+    let n = clause.len() / 4;
+    let k = chain.len() / 4;
+    if n > literals.len() || k > hints.len() {
+        blank(literals, hints);
+        return None;
+    }
+    put_literals(clause, literals);
+    put_hints(chain, hints);
+    Some(Shape::AddHinted(n, k))
 }
 
 /// An addition, after its first byte.

@@ -4,6 +4,9 @@ ghost use Rattle.certificate.specs.Reading.{Reads, Leaves, memoryOf};
 use crate::fault::SourceFault;
 use crate::found::Found;
 
+/// How many steps can have a place.
+pub const PLACES: u32 = 4_294_967_294;
+
 pub trait Source {
     /// The steps still to come, and what ends them.
     ghost rest: { Self → Stream };
