@@ -2,7 +2,9 @@
 pub mod fault;
 pub mod found;
 pub mod hinted;
+mod line;
 mod memory;
+pub mod plain;
 mod record;
 pub mod source;
 mod words;

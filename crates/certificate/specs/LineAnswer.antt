@@ -1,0 +1,41 @@
+-- What the reading of a line answers and leaves.
+-- Pushed: how many literals a line has, and those of them that have a place in the memory
+-- lineAnswer: the shape of a line's step, if there is one and it fits
+-- LineLeaves: what the memory holds then
+-- textRest: what a source in the text form still has
+use mathlib.Core.Path.{_≡_}
+use mathlib.Core.List.{List, []}
+use Prim.Native.Nat.{ℕ}
+use denote.Ref.{now}
+use lib.IntN.{ℤ}
+use lib.ListN.{length, take}
+use Rattle.std.specs.declared.option.Option.{Option}
+use Rattle.std.specs.declared.option.Option.the-variants.{Some, None}
+use Rattle.std.specs.declared.result.Result.{Result}
+use Rattle.std.specs.declared.result.Result.the-variants.{Err}
+use Rattle.std.specs.Options.{okOr}
+use Rattle.text.specs.Pieces.{pieces}
+use Rattle.certificate.specs.declared.found.Shape.{Shape}
+use Rattle.certificate.specs.declared.line.Unread.{Unread}
+use Rattle.certificate.specs.declared.line.Unread.the-variants.{Form, TooMany}
+use Rattle.certificate.specs.declared.plain.TextSource.{TextSource}
+use Rattle.certificate.specs.Lines.{clause, linesOf}
+use Rattle.certificate.specs.Reading.{Memory, shapeIn, Holds, Leaves}
+use Rattle.certificate.specs.Stream.{Step, Stream}
+
+pub record Pushed (ws : List (List ℕ)) (room n : ℕ) (kept : List ℤ) : Type 0 where
+  pub zs : List ℤ
+  pub whole : clause ws ≡ Some zs
+  pub many : n ≡ length zs
+  pub first : kept ≡ take room zs
+
+abbrev pub lineAnswer : Memory → Option Step → Result Shape Unread
+lineAnswer k None = Err Form
+lineAnswer k (Some t) = okOr (shapeIn k t) TooMany
+
+abbrev pub LineLeaves : Memory → Option Step → List ℤ → List ℕ → Type 0
+LineLeaves k None ls hs = Leaves k [] ls hs
+LineLeaves k (Some t) ls hs = Holds k t ls hs
+
+abbrev pub textRest : TextSource → Stream
+textRest s = linesOf (s .number) (pieces 10 (now (s .rest)))
