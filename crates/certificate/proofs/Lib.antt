@@ -1,6 +1,9 @@
 pub mod Answering
 pub mod FourBytes
 pub mod Kept
+pub mod LineAnswers
+pub mod LineEnds
+pub mod LineReads
 pub mod Records
 pub mod Spelling
 pub mod Unread

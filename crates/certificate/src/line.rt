@@ -1,15 +1,17 @@
 //! The lines of the text form.
 ghost use mathlib.Core.Path.{_≡_};
 ghost use mathlib.Core.List.{[]};
+ghost use lib.IntN.{pos};
 ghost use lib.ListN.{length};
 ghost use Rattle.std.specs.Options.{Cases};
 ghost use Rattle.std.specs.declared.option.Option.the-variants.{None};
 ghost use Rattle.text.specs.Pieces.{pieces};
 ghost use Rattle.text.specs.Rows.{items, room, Same};
 ghost use Rattle.certificate.specs.Lines.{clause, deletedNumber, lineStep};
-ghost use Rattle.certificate.specs.LineAnswer.{Pushed, lineAnswer, LineLeaves};
-ghost use Rattle.certificate.specs.Reading.{memoryOf};
+ghost use Rattle.certificate.specs.LineAnswer.{Pushed, clauseAnswer, clauseKept, lineAnswer, LineLeaves};
+ghost use Rattle.certificate.specs.Reading.{memoryOf, standing};
 use crate::found::Shape;
+use crate::memory::blank;
 use crate::record::LITERALS;
 use text::digits::decimal;
 use text::digits::signed;
@@ -62,4 +64,45 @@ fn push_literals(line: &[u8], rows: &mut Rows<'_, i32>) -> Option<usize>
         count += 1;
     }
     None
+}
+
+/// Puts the literals of a line into the rows, if they fit.
+fn push_clause(line: &[u8], rows: &mut Rows<'_, i32>) -> Result<usize, Unread>
+    requires { ⌜ items (now rows) ≡ [] ⌝ }
+    ensures answer { λ r. ⌜ r ≡ clauseAnswer (room (now (rows .entry))) (clause (pieces 32 (now (line .entry)))) ⌝ }
+    ensures items { λ _. ⌜ items (now (rows .exit)) ≡ clauseKept (room (now (rows .entry))) (clause (pieces 32 (now (line .entry)))) ⌝ }
+    ensures same { λ _. ⌜ Same (now (rows .entry)) (now (rows .exit)) ⌝ }
+{
+    let Some(count) = push_literals(line, rows) else {
+        rows.clear();
+        return Err(Unread::Form);
+    };
+    if count > rows.len() {
+        rows.clear();
+        return Err(Unread::TooMany);
+    }
+    Ok(count)
+}
+
+/// Puts the literals of a line into the memory lent, if they fit, and zeros after them.
+fn read_clause(line: &[u8], literals: &mut [i32]) -> Result<usize, Unread>
+    ensures answer { λ r. ⌜ r ≡ clauseAnswer (length (now (literals .entry))) (clause (pieces 32 (now (line .entry)))) ⌝ }
+    ensures memory { λ _. ⌜ now (literals .exit) ≡ standing (pos 0) (length (now (literals .entry))) (clauseKept (length (now (literals .entry))) (clause (pieces 32 (now (line .entry))))) ⌝ }
+{
+    let mut rows = Rows::new(literals, 0);
+    push_clause(line, &mut rows)
+}
+
+/// Reads the step of a line into the memory lent.
+pub fn read_line(line: &[u8], literals: &mut [i32], hints: &mut [u32]) -> Result<Shape, Unread>
+    ensures answer { λ r. ⌜ r ≡ lineAnswer (memoryOf (now (literals .entry)) (now (hints .entry))) (lineStep (now (line .entry))) ⌝ }
+    ensures memory { λ _. ⌜ LineLeaves (memoryOf (now (literals .entry)) (now (hints .entry))) (lineStep (now (line .entry))) (now (literals .exit)) (now (hints .exit)) ⌝ }
+{
+    if let Some(number) = deleted_number(line) {
+        blank(literals, hints);
+        return Ok(Shape::Delete(number));
+    }
+    hints.fill(0);
+    let count = read_clause(line, literals)?;
+    Ok(Shape::Add(count))
 }
