@@ -4,6 +4,7 @@ pub mod Kept
 pub mod LineAnswers
 pub mod LineEnds
 pub mod LineReads
+pub mod Opening
 pub mod Records
 pub mod Spelling
 pub mod Unread

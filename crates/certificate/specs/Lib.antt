@@ -1,3 +1,4 @@
+pub mod Form
 pub mod Hinted
 pub mod HintedState
 pub mod LineAnswer

@@ -1,5 +1,6 @@
 //! Certificates: what a solver hands over, as steps.
 pub mod fault;
+pub mod form;
 pub mod found;
 pub mod hinted;
 mod line;
