@@ -1,10 +1,13 @@
 pub mod Answering
 pub mod FourBytes
+pub mod HintedWriting
 pub mod Kept
 pub mod LineAnswers
 pub mod LineEnds
 pub mod LineReads
+pub mod Numerals
 pub mod Opening
 pub mod Records
 pub mod Spelling
+pub mod TextWriting
 pub mod Unread

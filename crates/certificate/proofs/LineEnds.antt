@@ -20,7 +20,7 @@ pub lines-none : (n : ℕ) (bs : List ℕ) → length bs ≡ 0 → linesOf n (pi
 lines-none n [] e = refl
 lines-none n (b ∷ bs) e = absurd (omega arith)
 
-linesOf-next : (n : ℕ) (l : List ℕ) (ps : List (List ℕ)) → (ps ≡ [] → ⊥) → linesOf n (l ∷ ps) ≡ whilePlaces n (orUnreadable (suc n) (lineStep l) (λ t. onTop (record { place = suc n; step = t }) (linesOf (suc n) ps)))
+pub linesOf-next : (n : ℕ) (l : List ℕ) (ps : List (List ℕ)) → (ps ≡ [] → ⊥) → linesOf n (l ∷ ps) ≡ whilePlaces n (orUnreadable (suc n) (lineStep l) (λ t. onTop (record { place = suc n; step = t }) (linesOf (suc n) ps)))
 linesOf-next n l [] h = absurd (h refl)
 linesOf-next n l (m ∷ ls) h = refl
 

@@ -7,11 +7,11 @@ use lib.Dec.{leb, eqb, ltb}
 use lib.ListN.{length, getD, take, drop}
 use native.Mathlib.Omega.{arith}
 use Rattle.std.proofs.shelf.Lists.{take-rest, getD-drop, length-drop}
-use Rattle.std.proofs.shelf.Tests.{le-leb, eq-eqb, ne-eqb, le-ltb}
+use Rattle.std.proofs.shelf.Tests.{le-leb, eq-eqb, ne-eqb, le-ltb, lt-ltb}
 use Rattle.std.specs.declared.option.Option.{Option}
 use Rattle.std.specs.declared.option.Option.the-variants.{Some, None}
 use Rattle.certificate.specs.Hinted.{short, word, counted, entry, additionEntry, stated, records, hinted}
-use Rattle.certificate.specs.Stream.{Step, delete}
+use Rattle.certificate.specs.Stream.{Step, delete, unreadable}
 
 counted-at : (most a b n : ℕ) (bs : List ℕ) → n ≡ short a b → n ≤ most → 4 * n ≤ length bs → Some (take (4 * n) bs, drop (4 * n) bs) ≡ counted most (a ∷ b ∷ bs)
 counted-at most a b n bs e l m =
@@ -67,3 +67,6 @@ trailer-read bs n l e =
     let p : ltb (length bs) 8 ≡ false = le-ltb (length bs) 8 l in
     let s = stated-at bs (length bs - 8) (omega arith) in
     rw (z, p, e, s) refl
+
+pub trailer-cut : (bs : List ℕ) → length bs < 8 → unreadable 0 ≡ hinted bs
+trailer-cut bs l = let p : ltb (length bs) 8 ≡ true = lt-ltb (length bs) 8 l in rw p refl

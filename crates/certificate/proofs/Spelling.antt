@@ -69,7 +69,8 @@ so-far-more all ws w room count z ks js s e f m g =
       whole = s .whole ∙ ap (mapped (λ ys. zs ++ ys)) (literal-next z w ws e f) ∙ mapped-more zs z (literals ws);
       many = omega (arith, length-push zs z);
       few = omega arith;
-      first = take-grown room z zs js (rw (s .first) at g) }
+      first = take-grown room z zs js (rw (s .first) at g);
+    }
 
 pub grown-by : {A E : Type 0} (r : Result A E) (room : ℕ) (z : ℤ) (ks js : List ℤ) → Cases r (λ _. js ≡ ks ++ z ∷ []) (λ _. js ≡ ks) → Cases r (λ _. length ks < room) (λ _. length ks ≡ room) → Grown room z ks js
 grown-by (Ok x) room z ks js a b = inl (a, b)

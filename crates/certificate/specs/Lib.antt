@@ -6,3 +6,4 @@ pub mod Lines
 pub mod Reading
 pub mod Refusal
 pub mod Stream
+pub mod Writing

@@ -1,6 +1,7 @@
 //! Which form a certificate has.
 ghost use mathlib.Core.Path.{_≡_};
 ghost use Rattle.certificate.specs.Form.{certificate, certificateRest};
+ghost use Rattle.certificate.specs.Writing.{HintedBack, TextBack};
 use crate::fault::SourceFault;
 use crate::found::Found;
 use crate::hinted::HintedSource;
@@ -22,7 +23,9 @@ pub enum Certificate<'a> {
 
 /// Opens a certificate in the form that its last bytes say.
 pub fn open(bytes: &[u8]) -> Certificate<'_>
-    ensures { λ r. ⌜ certificateRest r ≡ certificate (now (bytes .entry)) ⌝ }
+    ensures meaning { λ r. ⌜ certificateRest r ≡ certificate (now (bytes .entry)) ⌝ }
+    ensures hinted { λ r. ⌜ HintedBack (now (bytes .entry)) (certificateRest r) ⌝ }
+    ensures text { λ r. ⌜ TextBack (now (bytes .entry)) (certificateRest r) ⌝ }
 {
     let end = bytes.len().saturating_sub(HINT.len());
     if same_bytes(&bytes[end..], &HINT) {

@@ -3,6 +3,7 @@ ghost use mathlib.Core.Path.{_≡_};
 ghost use Rattle.certificate.specs.Hinted.{concluded, hinted};
 ghost use Rattle.certificate.specs.HintedState.{hintedRest};
 ghost use Rattle.certificate.specs.Reading.{answered};
+ghost use Rattle.certificate.specs.Writing.{HintedBack};
 use crate::fault::SourceFault;
 use crate::found::Found;
 use crate::memory::blank;
@@ -22,7 +23,8 @@ pub struct HintedSource<'a> {
 impl<'a> HintedSource<'a> {
     /// The source of all records. The last four bytes, the mark, are not looked at.
     pub fn new(bytes: &'a [u8]) -> HintedSource<'a>
-        ensures { λ r. ⌜ hintedRest r ≡ hinted (now (bytes .entry)) ⌝ }
+        ensures meaning { λ r. ⌜ hintedRest r ≡ hinted (now (bytes .entry)) ⌝ }
+        ensures back { λ r. ⌜ HintedBack (now (bytes .entry)) (hintedRest r) ⌝ }
     {
         if bytes.len() < 8 {
             return HintedSource {
@@ -32,8 +34,12 @@ impl<'a> HintedSource<'a> {
             };
         }
         let end = bytes.len() - 8;
-        let stated =
-            u32::from_le_bytes([bytes[end], bytes[end + 1], bytes[end + 2], bytes[end + 3]]);
+        let stated = u32::from_le_bytes([
+            bytes[end],
+            bytes[end + 1],
+            bytes[end + 2],
+            bytes[end + 3],
+        ]);
         HintedSource {
             rest: &bytes[0..end],
             number: 0,

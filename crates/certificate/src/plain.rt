@@ -2,6 +2,7 @@
 ghost use mathlib.Core.Path.{_≡_};
 ghost use Rattle.certificate.specs.Lines.{textual};
 ghost use Rattle.certificate.specs.LineAnswer.{textRest};
+ghost use Rattle.certificate.specs.Writing.{TextBack};
 use crate::fault::SourceFault;
 use crate::found::Found;
 use crate::line::Unread;
@@ -22,7 +23,8 @@ pub struct TextSource<'a> {
 impl<'a> TextSource<'a> {
     /// The source of all lines.
     pub fn new(bytes: &'a [u8]) -> TextSource<'a>
-        ensures { λ r. ⌜ textRest r ≡ textual (now (bytes .entry)) ⌝ }
+        ensures meaning { λ r. ⌜ textRest r ≡ textual (now (bytes .entry)) ⌝ }
+        ensures back { λ r. ⌜ TextBack (now (bytes .entry)) (textRest r) ⌝ }
     {
         TextSource {
             rest: bytes,

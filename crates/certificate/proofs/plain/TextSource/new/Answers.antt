@@ -1,0 +1,7 @@
+use mathlib.Core.Path.{refl}
+use Rattle.certificate.specs.Lines.{textual}
+use Rattle.certificate.proofs.TextWriting.{text-back}
+use Rattle.certificate.proofs.plain.TextSource.new.Needs as need
+
+pub returns : need.returns
+returns c = record { meaning = refl; back = text-back (c .args .bytes .now) (textual (c .args .bytes .now)) refl }
