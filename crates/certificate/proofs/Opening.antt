@@ -1,21 +1,26 @@
 -- The last four bytes decide which form is read.
-use mathlib.Core.Path.{_≡_, refl, ap, sym, _∙_}
-use mathlib.Core.Bool.{Bool, true, false}
+use mathlib.Core.Path.{_≡_, refl, ap, sym, subst, _∙_}
+use mathlib.Core.Bool.{Bool, true, false, cond}
 use mathlib.Core.List.{List, [], _∷_, _++_}
 use Prim.Native.Nat.{ℕ, _+_, _-_, _≤_}
 use lib.Dec.{eqb}
-use lib.ListN.{length, take, drop, length-append}
+use lib.ListN.{length, getD, take, drop, length-append}
+use mir.Syntax.{w8}
+use mir.Val.{Fits}
 use native.Mathlib.Omega.{arith}
 use Rattle.std.proofs.shelf.Lists.{take-rest, append-assoc, append-nil, drop-at, drop-append-le, length-push}
 use Rattle.std.proofs.shelf.Tests.{ne-eqb, and-right}
+use Rattle.std.specs.Orderings.{When}
 use Rattle.std.specs.shelf.Text.{sameBytes}
 use Rattle.text.specs.Lists.{eachAll, Each}
 use Rattle.certificate.specs.Form.{mark, isHinted, certificate}
 use Rattle.certificate.specs.Hinted.{hinted}
 use Rattle.certificate.specs.Lines.{textual}
 use Rattle.certificate.specs.Stream.{Step, Stream}
-use Rattle.certificate.specs.Writing.{wordBytes, recordBytes, lineBytes, textBytes, HintedBack, TextBack}
+use Rattle.certificate.specs.Writing.{wordBytes, recordBytes, lineBytes, textBytes, HintedBack, TextBack, HintedHeld, TextHeld, CertificateHeld}
+use Rattle.certificate.proofs.HintedHolding.{bytes-each, hinted-held}
 use Rattle.certificate.proofs.HintedWriting.{hinted-back}
+use Rattle.certificate.proofs.TextHolding.{textual-held}
 use Rattle.certificate.proofs.TextWriting.{text-back}
 
 told : (bs : List ℕ) (e : ℕ) (b : Bool) → e ≡ length bs - 4 → b ≡ sameBytes (take (length bs - e) (drop e bs)) mark → isHinted bs ≡ b
@@ -63,3 +68,10 @@ pub opened-text : (bs : List ℕ) (s : Stream) → s ≡ certificate bs → Text
 opened-text bs s e ts h b =
     let q : isHinted bs ≡ false = ap isHinted b ∙ text-unhinted ts in
     text-back bs s (e ∙ (rw q refl)) ts h b
+
+pub opened-held : (bs : List ℕ) (s : Stream) → ((i : ℕ) → Fits w8 (getD bs i 0)) → s ≡ certificate bs → CertificateHeld bs s
+opened-held bs s h e = pick (isHinted bs) refl e
+  where
+    pick : (b : Bool) → isHinted bs ≡ b → s ≡ cond b (hinted bs) (textual bs) → When b (HintedHeld bs s) (TextHeld bs s)
+    pick true q e = subst (HintedHeld bs) (sym e) (hinted-held bs (bytes-each bs h) q)
+    pick false q e = subst (TextHeld bs) (sym e) (textual-held bs)

@@ -16,7 +16,7 @@ use Rattle.certificate.specs.Hinted.{short, counted, hintedAddition, additionE
 use Rattle.certificate.specs.Stream.{Step, Stream, onTop, ended, unreadable, orUnreadable, then, whilePlaces}
 
 -- no more bytes are left than there were
-abbrev Within : {X : Type 0} → ℕ → Option (X × List ℕ) → Type 0
+abbrev pub Within : {X : Type 0} → ℕ → Option (X × List ℕ) → Type 0
 Within n None = Unit {0}
 Within n (Some e) = length (e .1) ≤ n
 
@@ -46,7 +46,7 @@ deletion-within (a ∷ b ∷ []) = tt
 deletion-within (a ∷ b ∷ c ∷ []) = tt
 deletion-within (a ∷ b ∷ c ∷ d ∷ bs) = omega arith
 
-entry-within : (b : ℕ) (bs : List ℕ) → Within (length bs) (entry (b ∷ bs))
+pub entry-within : (b : ℕ) (bs : List ℕ) → Within (length bs) (entry (b ∷ bs))
 entry-within b bs =
     cond-both (eqb b 97) (additionEntry bs) (cond (eqb b 100) (deletionEntry bs) None) (Within (length bs))
     (λ _. literals-within (length bs) (counted 512 bs) (counted-within 512 bs))

@@ -5,6 +5,8 @@
 -- InRecord, InLine: the steps that a form can write; Writable: so many of them that each has a place
 -- complete: steps at the places from 1 on, and an end
 -- HintedBack, TextBack: what was written of steps is read as these steps
+-- Held: the steps read stand written from the first byte on, and where the end is read, nothing else does
+-- HintedHeld, TextHeld: this, in either form; CertificateHeld: in the form that the last bytes say
 use mathlib.Core.Path.{_≡_}
 use mathlib.Core.List.{List, [], _∷_, _++_}
 use Prim.Native.Nat.{ℕ, _/_, _%_, _^_, _<_, _≤_}
@@ -12,10 +14,11 @@ use lib.ListN.{length}
 use mir.Syntax.{w32}
 use mir.Val.{ofZ, SFits}
 use Rattle.std.specs.declared.option.Option.the-variants.{Some, None}
+use Rattle.std.specs.Orderings.{When}
 use Rattle.std.specs.Written.{decimal, signed}
 use Rattle.text.specs.Lists.{eachAll, Each}
 use Rattle.text.specs.Literals.{variableOf}
-use Rattle.certificate.specs.Form.{mark}
+use Rattle.certificate.specs.Form.{mark, isHinted}
 use Rattle.certificate.specs.Stream.{Step, add, delete, finished, Stream, numbered}
 
 abbrev pub shortBytes : ℕ → List ℕ
@@ -64,3 +67,20 @@ HintedBack bs s = (ts : List Step) → Writable InRecord ts → bs ≡ hintedByt
 
 abbrev pub TextBack : List ℕ → Stream → Type 0
 TextBack bs s = (ts : List Step) → Writable InLine ts → bs ≡ textBytes ts → s ≡ complete ts
+
+pub record Held (P : Step → Type 0) (one : Step → List ℕ) (all : List Step → List ℕ) (bs : List ℕ) (s : Stream) : Type 0 where
+  pub ts : List Step
+  pub steps : s .steps ≡ numbered 0 ts
+  pub good : Each P ts
+  pub left : List ℕ
+  pub starts : bs ≡ eachAll one ts ++ left
+  pub whole : s .ending ≡ finished → bs ≡ all ts
+
+abbrev pub HintedHeld : List ℕ → Stream → Type 0
+HintedHeld bs s = Held InRecord recordBytes hintedBytes bs s
+
+abbrev pub TextHeld : List ℕ → Stream → Type 0
+TextHeld bs s = Held InLine (λ t. lineBytes t ++ 10 ∷ []) textBytes bs s
+
+abbrev pub CertificateHeld : List ℕ → Stream → Type 0
+CertificateHeld bs s = When (isHinted bs) (HintedHeld bs s) (TextHeld bs s)

@@ -1,7 +1,7 @@
 //! Which form a certificate has.
 ghost use mathlib.Core.Path.{_≡_};
 ghost use Rattle.certificate.specs.Form.{certificate, certificateRest};
-ghost use Rattle.certificate.specs.Writing.{HintedBack, TextBack};
+ghost use Rattle.certificate.specs.Writing.{HintedBack, TextBack, CertificateHeld};
 use crate::fault::SourceFault;
 use crate::found::Found;
 use crate::hinted::HintedSource;
@@ -26,6 +26,7 @@ pub fn open(bytes: &[u8]) -> Certificate<'_>
     ensures meaning { λ r. ⌜ certificateRest r ≡ certificate (now (bytes .entry)) ⌝ }
     ensures hinted { λ r. ⌜ HintedBack (now (bytes .entry)) (certificateRest r) ⌝ }
     ensures text { λ r. ⌜ TextBack (now (bytes .entry)) (certificateRest r) ⌝ }
+    ensures held { λ r. ⌜ CertificateHeld (now (bytes .entry)) (certificateRest r) ⌝ }
 {
     let end = bytes.len().saturating_sub(HINT.len());
     if same_bytes(&bytes[end..], &HINT) {
