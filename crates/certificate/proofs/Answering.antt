@@ -84,14 +84,3 @@ reads-over k s s' p t ls hs e h m =
     let v : length hs ≡ k .hints = ap length b ∙ length-standing 0 (k .hints) [] (omega arith) in
     let w : inMemory (memoryOf ls hs) t ≡ false = rw (u, v) f in
     rw e (record { literals = m .literals; hints = m .hints }, (t, (refl, rw w tt)))
-
--- memory of the same lengths
-pub reads-step-in : (k m : Memory) (s s' : Stream) (p : ℕ) (t : Step) (g : Shape) (ls : List ℤ) (hs : List ℕ) → m .literals ≡ k .literals → m .hints ≡ k .hints → s ≡ onTop (record { place = p; step = t }) s' → Some g ≡ shapeIn m t → Holds m t ls hs → Leaves k (s .steps) ls hs × Reads s (Ok (Some (record { place = p; shape = g }))) s' ls hs
-reads-step-in k m s s' p t g ls hs a b e h n =
-    let q : m ≡ k = rw (a, b) refl in
-    reads-step k s s' p t g ls hs e (rw q at h) (rw q at n)
-
-pub reads-over-in : (k m : Memory) (s s' : Stream) (p : ℕ) (t : Step) (ls : List ℤ) (hs : List ℕ) → m .literals ≡ k .literals → m .hints ≡ k .hints → s ≡ onTop (record { place = p; step = t }) s' → None ≡ shapeIn m t → Holds m t ls hs → Leaves k (s .steps) ls hs × Reads s (Err (TooMany p)) s' ls hs
-reads-over-in k m s s' p t ls hs a b e h n =
-    let q : m ≡ k = rw (a, b) refl in
-    reads-over k s s' p t ls hs e (rw q at h) (rw q at n)

@@ -2,7 +2,7 @@
 use mathlib.Core.Path.{_≡_, refl, ap, sym, _∙_}
 use mathlib.Core.Bool.{true, false}
 use mathlib.Core.List.{List, [], _∷_, _++_}
-use Prim.Native.Nat.{ℕ, suc, _+_, _-_, _*_, _/_, _%_, _^_, _<_, _≤_}
+use Prim.Native.Nat.{ℕ, zero, suc, _+_, _-_, _*_, _/_, _%_, _^_, _<_, _≤_}
 use lib.Dec.{eqb, ltb, leb}
 use lib.IntN.{ℤ}
 use lib.ListN.{length, take, drop, length-append}
@@ -10,7 +10,7 @@ use mir.Syntax.{w32}
 use mir.Val.{toZ, ofZ, SFits}
 use native.Mathlib.Numerals.{add-one}
 use native.Mathlib.Omega.{arith}
-use Rattle.std.proofs.shelf.Lists.{append-assoc, take-at, drop-at}
+use Rattle.std.proofs.shelf.Lists.{append-assoc, append-nil, take-at, drop-at}
 use Rattle.std.proofs.shelf.Signed.{toZ-ofZ}
 use Rattle.std.proofs.shelf.Tests.{eq-eqb, le-leb, le-ltb}
 use Rattle.std.specs.Options.{mapped}
@@ -19,8 +19,8 @@ use Rattle.std.specs.declared.option.Option.the-variants.{Some, None}
 use Rattle.text.specs.Lists.{each, eachAll, Each}
 use Rattle.certificate.specs.Form.{mark}
 use Rattle.certificate.specs.Hinted.{short, word, words, counted, hintedAddition, additionEntry, entry, records, stated, hinted}
-use Rattle.certificate.specs.Stream.{Step, add, delete, finished, Stream, onTop, numbered, then}
-use Rattle.certificate.specs.Writing.{shortBytes, wordBytes, recordBytes, hintedBytes, InRecord, Writable, complete, HintedBack}
+use Rattle.certificate.specs.Stream.{Step, add, delete, Placed, finished, Stream, onTop, places, numbered, then}
+use Rattle.certificate.specs.Writing.{shortBytes, wordBytes, recordBytes, hintedBytes, InRecord, Writable, complete, HintedBack, HintedFirst}
 use Rattle.certificate.proofs.Unread.{records-first}
 
 short-back : (n : ℕ) → n % 256 + n / 256 * 256 ≡ n
@@ -66,12 +66,26 @@ entry-written (add c (Some hs)) r h =
     sym e
 entry-written (delete n) r h = rw (word-back n) refl
 
-records-written : (m n : ℕ) (ts : List Step) → Each InRecord ts → n + length ts ≡ m → m ≤ 4294967294 → records (Some m) n (eachAll recordBytes ts) ≡ record { steps = numbered n ts; ending = finished }
-records-written m n [] h e l = let q : eqb m n ≡ true = eq-eqb m n (omega arith) in rw q refl
-records-written m n (t ∷ ts) h e l =
-    let f = records-first (Some m) n (recordBytes t ++ eachAll recordBytes ts) t (eachAll recordBytes ts) (omega arith) (entry-written t (eachAll recordBytes ts) (h .0)) in
-    let g = records-written m (suc n) ts (h .1) (omega arith) l in
-    f ∙ (rw (add-one n, g) refl)
+-- steps before those of a stream
+abbrev pub before : List Placed → Stream → Stream
+before ps s = record { steps = ps ++ s .steps; ending = s .ending }
+
+records-front : (o : Option ℕ) (n : ℕ) (ts : List Step) (r : List ℕ) → Each InRecord ts → n + length ts ≤ places → records o n (eachAll recordBytes ts ++ r) ≡ before (numbered n ts) (records o (n + length ts) r)
+records-front o n [] r h l = let z : n + 0 ≡ n = omega arith in rw z refl
+records-front o n (t ∷ ts) r h l =
+    let rest = eachAll recordBytes ts ++ r in
+    let a = append-assoc (recordBytes t) (eachAll recordBytes ts) r in
+    let f = records-first o n (recordBytes t ++ rest) t rest (omega arith) (entry-written t rest (h .0)) in
+    let g = records-front o (n + 1) ts r (h .1) (omega arith) in
+    let q : n + 1 + length ts ≡ n + suc (length ts) = omega arith in
+    ap (records o n) a ∙ f ∙ ap (onTop (record { place = n + 1; step = t })) (g ∙ ap (λ k. before (numbered (n + 1) ts) (records o k r)) q) ∙ (rw (add-one n) refl)
+
+records-written : (ts : List Step) → Each InRecord ts → length ts ≤ places → records (Some (length ts)) 0 (eachAll recordBytes ts) ≡ complete ts
+records-written ts h l =
+    let z : 0 + length ts ≡ length ts = omega arith in
+    let f = records-front (Some (length ts)) 0 ts [] h (omega arith) in
+    let q : eqb (length ts) (length ts) ≡ true = eq-eqb (length ts) (length ts) refl in
+    ap (records (Some (length ts)) 0) (sym (append-nil (eachAll recordBytes ts))) ∙ f ∙ (rw (z, q, append-nil (numbered 0 ts)) refl)
 
 trailer-written : (n : ℕ) → stated (wordBytes n ++ mark) ≡ Some n
 trailer-written n = rw (word-back n) refl
@@ -85,7 +99,24 @@ hinted-written ts h =
     let p : ltb (length (xs ++ ys)) 8 ≡ false = le-ltb _ _ (omega arith) in
     let t = take-at xs ys (length (xs ++ ys) - 8) i in
     let d = drop-at xs ys (length (xs ++ ys) - 8) i in
-    rw (p, t, d, trailer-written (length ts)) (records-written (length ts) 0 ts (h .0) (omega arith) (h .1))
+    rw (p, t, d, trailer-written (length ts)) (records-written ts (h .0) (h .1))
 
 pub hinted-back : (bs : List ℕ) (s : Stream) → s ≡ hinted bs → HintedBack bs s
 hinted-back bs s e ts h b = e ∙ ap hinted b ∙ hinted-written ts h
+
+take-past : {X : Type 0} (xs ys : List X) (m n : ℕ) → m ≡ length xs + n → take m (xs ++ ys) ≡ xs ++ take n ys
+take-past [] ys m n e = let q : m ≡ n = omega arith in rw q refl
+take-past (x ∷ xs) ys zero n e = absurd (omega arith)
+take-past (x ∷ xs) ys (suc m) n e = ap (λ t. x ∷ t) (take-past xs ys m n (omega arith))
+
+pub hinted-first : (bs : List ℕ) (s : Stream) → s ≡ hinted bs → HintedFirst bs s
+hinted-first bs s e ts r h l b =
+    let xs = eachAll recordBytes ts in
+    let o = stated (drop (length bs - 8) bs) in
+    let k = ap length b ∙ length-append xs r in
+    let p : ltb (length bs) 8 ≡ false = le-ltb _ _ (omega arith) in
+    let t : take (length bs - 8) bs ≡ xs ++ take (length r - 8) r = ap (take (length bs - 8)) b ∙ take-past xs r (length bs - 8) (length r - 8) (omega arith) in
+    let m = h .1 in
+    let f = records-front o 0 ts (take (length r - 8) r) (h .0) (omega arith) in
+    let g : hinted bs ≡ records o 0 (take (length bs - 8) bs) = rw p refl in
+    (records o (0 + length ts) (take (length r - 8) r) .steps, ap (λ x. x .steps) (e ∙ g ∙ ap (records o 0) t ∙ f))

@@ -17,11 +17,11 @@ use Rattle.certificate.specs.Form.{mark, isHinted, certificate}
 use Rattle.certificate.specs.Hinted.{hinted}
 use Rattle.certificate.specs.Lines.{textual}
 use Rattle.certificate.specs.Stream.{Step, Stream}
-use Rattle.certificate.specs.Writing.{wordBytes, recordBytes, lineBytes, textBytes, HintedBack, TextBack, HintedHeld, TextHeld, CertificateHeld}
+use Rattle.certificate.specs.Writing.{wordBytes, recordBytes, lineBytes, textBytes, HintedBack, TextBack, HintedFirst, TextFirst, CertificateFirst, HintedHeld, TextHeld, CertificateHeld}
 use Rattle.certificate.proofs.HintedHolding.{bytes-each, hinted-held}
-use Rattle.certificate.proofs.HintedWriting.{hinted-back}
+use Rattle.certificate.proofs.HintedWriting.{hinted-back, hinted-first}
 use Rattle.certificate.proofs.TextHolding.{textual-held}
-use Rattle.certificate.proofs.TextWriting.{text-back}
+use Rattle.certificate.proofs.TextWriting.{text-back, text-first}
 
 told : (bs : List ℕ) (e : ℕ) (b : Bool) → e ≡ length bs - 4 → b ≡ sameBytes (take (length bs - e) (drop e bs)) mark → isHinted bs ≡ b
 told bs e b i s = rw (← i) (ap (λ t. sameBytes t mark) (sym (take-rest bs e)) ∙ sym s)
@@ -75,3 +75,10 @@ opened-held bs s h e = pick (isHinted bs) refl e
     pick : (b : Bool) → isHinted bs ≡ b → s ≡ cond b (hinted bs) (textual bs) → When b (HintedHeld bs s) (TextHeld bs s)
     pick true q e = subst (HintedHeld bs) (sym e) (hinted-held bs (bytes-each bs h) q)
     pick false q e = subst (TextHeld bs) (sym e) (textual-held bs)
+
+pub opened-first : (bs : List ℕ) (s : Stream) → s ≡ certificate bs → CertificateFirst bs s
+opened-first bs s e = pick (isHinted bs) e
+  where
+    pick : (b : Bool) → s ≡ cond b (hinted bs) (textual bs) → When b (HintedFirst bs s) (TextFirst bs s)
+    pick true e = hinted-first bs s e
+    pick false e = text-first bs s e

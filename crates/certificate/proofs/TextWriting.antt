@@ -7,7 +7,7 @@ use lib.Dec.{eqb, ltb, leb}
 use lib.IntN.{ℤ, pos, negsuc}
 use lib.ListN.{length}
 use native.Mathlib.Omega.{arith}
-use Rattle.std.proofs.shelf.Lists.{append-assoc}
+use Rattle.std.proofs.shelf.Lists.{append-assoc, append-nil}
 use Rattle.std.proofs.shelf.Tests.{eq-eqb, ne-eqb, le-leb, lt-ltb}
 use Rattle.std.specs.Options.{mapped, orOther}
 use Rattle.std.specs.Written as written
@@ -21,8 +21,9 @@ use Rattle.text.specs.Lists.{each, eachAll, Each}
 use Rattle.text.specs.Literals.{variableOf}
 use Rattle.text.specs.Pieces.{front, pieces}
 use Rattle.certificate.specs.Lines.{isZero, literals, clause, deletedNumber, lineStep, linesOf, textual}
-use Rattle.certificate.specs.Stream.{Step, add, delete, finished, Stream, onTop, numbered, then}
-use Rattle.certificate.specs.Writing.{lineBytes, textBytes, InLine, Writable, complete, TextBack}
+use Rattle.certificate.specs.Stream.{Step, add, delete, finished, Stream, onTop, places, numbered, then}
+use Rattle.certificate.specs.Writing.{lineBytes, textBytes, InLine, Writable, complete, TextBack, TextFirst}
+use Rattle.certificate.proofs.HintedWriting.{before}
 use Rattle.certificate.proofs.LineEnds.{linesOf-next}
 use Rattle.certificate.proofs.Numerals.{Digit, decimal-digits, decimal-back, signed-back, signed-inked, signed-other}
 
@@ -90,18 +91,29 @@ line-within (add c (Some hs)) h = absurd h
 line-within (delete n) h =
     ((λ e. omega arith), ((λ e. omega arith), each-append Within (written.decimal n) (32 ∷ 48 ∷ []) (each-weaker Digit Within (λ b d e. omega (arith, d .0)) (written.decimal n) (decimal-digits n h)) ((λ e. omega arith), ((λ e. omega arith), tt))))
 
-lines-written : (n : ℕ) (ts : List Step) → Each InLine ts → n + length ts ≤ 4294967294 → linesOf n (pieces 10 (textBytes ts)) ≡ record { steps = numbered n ts; ending = finished }
-lines-written n [] h l = refl
-lines-written n (t ∷ ts) h l =
-    let a = append-assoc (lineBytes t) (10 ∷ []) (textBytes ts) in
-    let b = pieces-word 10 (lineBytes t) (textBytes ts) (line-within t (h .0)) in
-    let c = linesOf-next n (lineBytes t) (pieces 10 (textBytes ts)) (done-tells false 10 (textBytes ts)) in
-    let q : ltb n 4294967294 ≡ true = lt-ltb n 4294967294 (omega arith) in
-    let ih = lines-written (suc n) ts (h .1) (omega arith) in
-    ap (λ bs. linesOf n (pieces 10 bs)) a ∙ ap (linesOf n) b ∙ c ∙ (rw (q, line-written t (h .0), ih) refl)
+lines-front : (n : ℕ) (ts : List Step) (r : List ℕ) → Each InLine ts → n + length ts ≤ places → linesOf n (pieces 10 (textBytes ts ++ r)) ≡ before (numbered n ts) (linesOf (n + length ts) (pieces 10 r))
+lines-front n [] r h l = let z : n + 0 ≡ n = omega arith in rw z refl
+lines-front n (t ∷ ts) r h l =
+    let rest = textBytes ts ++ r in
+    let a = append-assoc (lineBytes t ++ 10 ∷ []) (textBytes ts) r ∙ append-assoc (lineBytes t) (10 ∷ []) rest in
+    let b = pieces-word 10 (lineBytes t) rest (line-within t (h .0)) in
+    let c = linesOf-next n (lineBytes t) (pieces 10 rest) (done-tells false 10 rest) in
+    let p : ltb n places ≡ true = lt-ltb n places (omega arith) in
+    let ih = lines-front (suc n) ts r (h .1) (omega arith) in
+    let q : suc n + length ts ≡ n + suc (length ts) = omega arith in
+    ap (λ bs. linesOf n (pieces 10 bs)) a ∙ ap (linesOf n) b ∙ c ∙ (rw (p, line-written t (h .0), ih, q) refl)
 
 pub textual-written : (ts : List Step) → Writable InLine ts → textual (textBytes ts) ≡ complete ts
-textual-written ts h = lines-written 0 ts (h .0) (omega (arith, h .1))
+textual-written ts h =
+    let m = h .1 in
+    let f = lines-front 0 ts [] (h .0) (omega arith) in
+    ap textual (sym (append-nil (textBytes ts))) ∙ f ∙ (rw (append-nil (numbered 0 ts)) refl)
 
 pub text-back : (bs : List ℕ) (s : Stream) → s ≡ textual bs → TextBack bs s
 text-back bs s e ts h b = e ∙ ap textual b ∙ textual-written ts h
+
+pub text-first : (bs : List ℕ) (s : Stream) → s ≡ textual bs → TextFirst bs s
+text-first bs s e ts r h b =
+    let m = h .1 in
+    let f = lines-front 0 ts r (h .0) (omega arith) in
+    (linesOf (0 + length ts) (pieces 10 r) .steps, ap (λ x. x .steps) (e ∙ ap textual b ∙ f))

@@ -12,7 +12,7 @@ use Rattle.certificate.specs.declared.form.Certificate.{Certificate}
 use Rattle.certificate.specs.declared.form.Certificate.the-variants.{Text, Hinted}
 use Rattle.certificate.specs.Hinted.{hinted}
 use Rattle.certificate.specs.HintedState.{hintedRest}
-use Rattle.certificate.specs.LineAnswer.{textRest}
+use Rattle.certificate.specs.TextState.{textRest}
 use Rattle.certificate.specs.Lines.{textual}
 use Rattle.certificate.specs.Stream.{Stream}
 

@@ -6,4 +6,5 @@ pub mod Lines
 pub mod Reading
 pub mod Refusal
 pub mod Stream
+pub mod TextState
 pub mod Writing

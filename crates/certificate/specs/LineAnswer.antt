@@ -3,12 +3,10 @@
 -- clauseAnswer, clauseKept: how many literals a line has, and these, if they fit so many places
 -- lineAnswer: the shape of a line's step, if there is one and it fits
 -- LineLeaves: what the memory holds then
--- textRest: what a source in the text form still has
 use mathlib.Core.Path.{_≡_}
 use mathlib.Core.Bool.{cond}
 use mathlib.Core.List.{List, []}
 use Prim.Native.Nat.{ℕ}
-use denote.Ref.{now}
 use lib.Dec.{leb}
 use lib.IntN.{ℤ}
 use lib.ListN.{length, take}
@@ -17,14 +15,12 @@ use Rattle.std.specs.declared.option.Option.the-variants.{Some, None}
 use Rattle.std.specs.declared.result.Result.{Result}
 use Rattle.std.specs.declared.result.Result.the-variants.{Ok, Err}
 use Rattle.std.specs.Options.{okOr}
-use Rattle.text.specs.Pieces.{pieces}
 use Rattle.certificate.specs.declared.found.Shape.{Shape}
 use Rattle.certificate.specs.declared.line.Unread.{Unread}
 use Rattle.certificate.specs.declared.line.Unread.the-variants.{Form, TooMany}
-use Rattle.certificate.specs.declared.plain.TextSource.{TextSource}
-use Rattle.certificate.specs.Lines.{clause, linesOf}
+use Rattle.certificate.specs.Lines.{clause}
 use Rattle.certificate.specs.Reading.{Memory, shapeIn, Holds, Leaves}
-use Rattle.certificate.specs.Stream.{Step, Stream}
+use Rattle.certificate.specs.Stream.{Step}
 
 pub record Pushed (ws : List (List ℕ)) (room n : ℕ) (kept : List ℤ) : Type 0 where
   pub zs : List ℤ
@@ -47,6 +43,3 @@ lineAnswer k (Some t) = okOr (shapeIn k t) TooMany
 abbrev pub LineLeaves : Memory → Option Step → List ℤ → List ℕ → Type 0
 LineLeaves k None ls hs = Leaves k [] ls hs
 LineLeaves k (Some t) ls hs = Holds k t ls hs
-
-abbrev pub textRest : TextSource → Stream
-textRest s = linesOf (s .number) (pieces 10 (now (s .rest)))

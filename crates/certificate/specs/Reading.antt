@@ -1,5 +1,6 @@
 -- What a reading answers and leaves.
--- Memory: how many literals and hints the lent memory holds; inMemory: whether a step fits it
+-- Memory: how many literals and hints the lent memory holds; memoryOf: of lists; inMemory: whether a step fits it
+-- literalsOf, hintsOf: the literals and the hints of a step
 -- shapeOf: how a step stands in memory; stepIn: the step that stands in memory so
 -- literalsIn, hintsIn: how many of them stand first
 -- standing: numbers first in memory for so many of them, zeros after them

@@ -4,7 +4,7 @@
 -- Ending: the end, or a form that cannot be read, at its place
 -- Stream: steps, and then an ending
 -- onTop: a stream with a step more; ended, unreadable: a stream with no steps, one that cannot be read at a place
--- whilePlaces: that a step has a place only after fewer than so many others
+-- places: how many steps can have a place; whilePlaces: what comes after so many steps, if one more can have a place
 -- numbered: steps at the places after a number
 -- orUnreadable, then: what an optional value gives
 use mathlib.Core.Bool.{cond}
@@ -40,8 +40,11 @@ ended e = record { steps = []; ending = e }
 abbrev pub unreadable : ℕ → Stream
 unreadable p = ended (broken p)
 
+abbrev pub places : ℕ
+places = 4294967294
+
 abbrev pub whilePlaces : ℕ → Stream → Stream
-whilePlaces n s = cond (ltb n 4294967294) s (unreadable 4294967295)
+whilePlaces n s = cond (ltb n places) s (unreadable (suc places))
 
 abbrev pub numbered : ℕ → List Step → List Placed
 numbered n [] = []

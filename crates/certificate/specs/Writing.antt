@@ -5,8 +5,9 @@
 -- InRecord, InLine: the steps that a form can write; Writable: so many of them that each has a place
 -- complete: steps at the places from 1 on, and an end
 -- HintedBack, TextBack: what was written of steps is read as these steps
+-- HintedFirst, TextFirst: whatever stands after it, these steps are read first
 -- Held: the steps read stand written from the first byte on, and where the end is read, nothing else does
--- HintedHeld, TextHeld: this, in either form; CertificateHeld: in the form that the last bytes say
+-- HintedHeld, TextHeld: this, in either form; CertificateHeld, CertificateFirst: in the form that the last bytes say
 use mathlib.Core.Path.{_≡_}
 use mathlib.Core.List.{List, [], _∷_, _++_}
 use Prim.Native.Nat.{ℕ, _/_, _%_, _^_, _<_, _≤_}
@@ -19,7 +20,7 @@ use Rattle.std.specs.Written.{decimal, signed}
 use Rattle.text.specs.Lists.{eachAll, Each}
 use Rattle.text.specs.Literals.{variableOf}
 use Rattle.certificate.specs.Form.{mark, isHinted}
-use Rattle.certificate.specs.Stream.{Step, add, delete, finished, Stream, numbered}
+use Rattle.certificate.specs.Stream.{Step, add, delete, Placed, finished, Stream, places, numbered}
 
 abbrev pub shortBytes : ℕ → List ℕ
 shortBytes n = n % 256 ∷ n / 256 ∷ []
@@ -57,7 +58,7 @@ InLine (add c (Some hs)) = ⊥
 InLine (delete n) = n < 10 ^ 7
 
 abbrev pub Writable : (Step → Type 0) → List Step → Type 0
-Writable P ts = Each P ts × (length ts ≤ 4294967294)
+Writable P ts = Each P ts × (length ts ≤ places)
 
 abbrev pub complete : List Step → Stream
 complete ts = record { steps = numbered 0 ts; ending = finished }
@@ -67,6 +68,13 @@ HintedBack bs s = (ts : List Step) → Writable InRecord ts → bs ≡ hintedByt
 
 abbrev pub TextBack : List ℕ → Stream → Type 0
 TextBack bs s = (ts : List Step) → Writable InLine ts → bs ≡ textBytes ts → s ≡ complete ts
+
+-- at least a trailer stands after the records
+abbrev pub HintedFirst : List ℕ → Stream → Type 0
+HintedFirst bs s = (ts : List Step) (r : List ℕ) → Writable InRecord ts → 8 ≤ length r → bs ≡ eachAll recordBytes ts ++ r → (ps : List Placed) × (s .steps ≡ numbered 0 ts ++ ps)
+
+abbrev pub TextFirst : List ℕ → Stream → Type 0
+TextFirst bs s = (ts : List Step) (r : List ℕ) → Writable InLine ts → bs ≡ textBytes ts ++ r → (ps : List Placed) × (s .steps ≡ numbered 0 ts ++ ps)
 
 pub record Held (P : Step → Type 0) (one : Step → List ℕ) (all : List Step → List ℕ) (bs : List ℕ) (s : Stream) : Type 0 where
   pub ts : List Step
@@ -84,3 +92,6 @@ TextHeld bs s = Held InLine (λ t. lineBytes t ++ 10 ∷ []) textBytes bs s
 
 abbrev pub CertificateHeld : List ℕ → Stream → Type 0
 CertificateHeld bs s = When (isHinted bs) (HintedHeld bs s) (TextHeld bs s)
+
+abbrev pub CertificateFirst : List ℕ → Stream → Type 0
+CertificateFirst bs s = When (isHinted bs) (HintedFirst bs s) (TextFirst bs s)

@@ -1,14 +1,14 @@
 //! Which form a certificate has.
 ghost use mathlib.Core.Path.{_≡_};
 ghost use Rattle.certificate.specs.Form.{certificate, certificateRest};
-ghost use Rattle.certificate.specs.Writing.{HintedBack, TextBack, CertificateHeld};
+ghost use Rattle.certificate.specs.Writing.{HintedBack, TextBack, CertificateFirst, CertificateHeld};
 use crate::fault::SourceFault;
 use crate::found::Found;
 use crate::hinted::HintedSource;
 use crate::hinted::HintedSteps;
-use crate::plain::TextSource;
-use crate::plain::TextSteps;
 use crate::source::Source;
+use crate::textual::TextSource;
+use crate::textual::TextSteps;
 use text::same::same_bytes;
 
 /// The last bytes of a certificate in the hinted form.
@@ -26,6 +26,7 @@ pub fn open(bytes: &[u8]) -> Certificate<'_>
     ensures meaning { λ r. ⌜ certificateRest r ≡ certificate (now (bytes .entry)) ⌝ }
     ensures hinted { λ r. ⌜ HintedBack (now (bytes .entry)) (certificateRest r) ⌝ }
     ensures text { λ r. ⌜ TextBack (now (bytes .entry)) (certificateRest r) ⌝ }
+    ensures first { λ r. ⌜ CertificateFirst (now (bytes .entry)) (certificateRest r) ⌝ }
     ensures held { λ r. ⌜ CertificateHeld (now (bytes .entry)) (certificateRest r) ⌝ }
 {
     let end = bytes.len().saturating_sub(HINT.len());

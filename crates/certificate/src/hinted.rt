@@ -3,7 +3,7 @@ ghost use mathlib.Core.Path.{_≡_};
 ghost use Rattle.certificate.specs.Hinted.{concluded, hinted};
 ghost use Rattle.certificate.specs.HintedState.{hintedRest};
 ghost use Rattle.certificate.specs.Reading.{answered};
-ghost use Rattle.certificate.specs.Writing.{HintedBack};
+ghost use Rattle.certificate.specs.Writing.{HintedBack, HintedFirst};
 use crate::fault::SourceFault;
 use crate::found::Found;
 use crate::memory::blank;
@@ -25,6 +25,7 @@ impl<'a> HintedSource<'a> {
     pub fn new(bytes: &'a [u8]) -> HintedSource<'a>
         ensures meaning { λ r. ⌜ hintedRest r ≡ hinted (now (bytes .entry)) ⌝ }
         ensures back { λ r. ⌜ HintedBack (now (bytes .entry)) (hintedRest r) ⌝ }
+        ensures first { λ r. ⌜ HintedFirst (now (bytes .entry)) (hintedRest r) ⌝ }
     {
         if bytes.len() < 8 {
             return HintedSource {
@@ -69,16 +70,18 @@ pub impl Source for HintedSource<'_> as HintedSteps {
         literals: &mut [i32],
         hints: &mut [u32],
     ) -> Result<Option<Found>, SourceFault> {
-        blank(literals, hints);
         let bytes = self.rest;
         if bytes.is_empty() {
+            blank(literals, hints);
             return self.end();
         }
         if self.number >= PLACES {
+            blank(literals, hints);
             return Err(SourceFault::Form(u32::MAX));
         }
         let place = self.number + 1;
         let Some(record) = first_record(bytes) else {
+            blank(literals, hints);
             return Err(SourceFault::Form(place));
         };
         self.number = place;

@@ -5,7 +5,7 @@ pub mod found;
 pub mod hinted;
 mod line;
 mod memory;
-pub mod plain;
 mod record;
 pub mod source;
+pub mod textual;
 mod words;

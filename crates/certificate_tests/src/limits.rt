@@ -1,4 +1,5 @@
 //! The limits of both forms, and of the memory lent.
+use crate::prefixes::HINTED;
 use certificate::fault::SourceFault;
 use certificate::fault::SourceFaultDebug;
 use certificate::fault::SourceFaultPartialEq;
@@ -143,4 +144,41 @@ fn no_memory() -> Result<(), Fail> {
     check_eq(source.read(&mut [], &mut []), Err(SourceFault::TooMany(2)))?;
     check_eq(source.read(&mut [], &mut []), Ok(None))?;
     check_eq(source.read(&mut [], &mut []), Ok(None))
+}
+
+/// Hints that are too many, at the record's place; both memories are then zero, and the next record is read.
+#[test]
+fn small_hint_memory() -> Result<(), Fail> {
+    let mut literals = [7; 2];
+    let mut hints = [7; 1];
+    let mut source = open(&HINTED);
+    check_eq(
+        source.read(&mut literals, &mut hints),
+        Err(SourceFault::TooMany(1)),
+    )?;
+    check_eq(literals[0], 0)?;
+    check_eq(hints[0], 0)?;
+    check_eq(
+        source.read(&mut literals, &mut hints),
+        Ok(Some(Found {
+            place: 2,
+            shape: Shape::Delete(4),
+        })),
+    )
+}
+
+#[test]
+fn literals_and_hints() -> Result<(), Fail> {
+    let mut literals = [7; 3];
+    let mut hints = [7; 3];
+    let mut source = open(&HINTED);
+    check_eq(
+        source.read(&mut literals, &mut hints),
+        Ok(Some(Found {
+            place: 1,
+            shape: Shape::AddHinted(2, 2),
+        })),
+    )?;
+    check_eq(literals, [1, -2, 0])?;
+    check_eq(hints, [3, 70000, 0])
 }

@@ -6,7 +6,7 @@ use Rattle.certificate.specs.HintedState.{stepOf, hintedRest}
 use Rattle.certificate.specs.Hinted.{records}
 use Rattle.certificate.specs.Reading.{memoryOf}
 use Rattle.certificate.specs.Stream.{broken}
-use Rattle.certificate.proofs.Answering.{reads-ended, reads-step-in, reads-over-in}
+use Rattle.certificate.proofs.Answering.{reads-ended, reads-step, reads-over}
 use Rattle.certificate.proofs.Unread.{records-past, records-first}
 use Rattle.certificate.proofs.hinted.HintedSteps.read.Needs as need
 
@@ -14,7 +14,8 @@ pub returns-then-self-ge-PLACES : need.returns-then-self-ge-PLACES
 returns-then-self-ge-PLACES c =
     let s = c .args .self .now in
     let e = records-past (s .stated) (s .number) (s .rest .now) (search needs) (c .if-self-ge-PLACES .taken) in
-    let h = reads-ended (memoryOf (c .args .literals .now) (c .args .hints .now)) (hintedRest s) (broken 4294967295) (c .blank .last .literals) (c .blank .last .hints) e (c .blank .ensures) in
+    let b = c .blank-then-self-ge-PLACES in
+    let h = reads-ended (memoryOf (c .args .literals .now) (c .args .hints .now)) (hintedRest s) (broken 4294967295) (b .last .literals) (b .last .hints) e (b .ensures) in
     record { memory = h .0; reads = h .1 }
 
 pub returns-in-Some-put-step : need.returns-in-Some-put-step
@@ -22,7 +23,7 @@ returns-in-Some-put-step c =
     let s = c .args .self .now in
     let r = c .in-Some .record in
     let e = records-first (s .stated) (s .number) (s .rest .now) (stepOf (r .step)) (r .rest .now) (c .if-self-ge-PLACES .left) (c .in-Some .ensures tt) in
-    let h = reads-step-in (memoryOf (c .args .literals .now) (c .args .hints .now)) (memoryOf (c .blank .last .literals) (c .blank .last .hints)) (hintedRest s) (records (s .stated) (s .number + 1) (r .rest .now)) (s .number + 1) (stepOf (r .step)) (c .in-Some-put-step .shape) (c .put-step .last .literals) (c .put-step .last .hints) (search needs) (search needs) e (c .in-Some-put-step .ensures tt .shape) (c .in-Some-put-step .ensures tt .memory) in
+    let h = reads-step (memoryOf (c .args .literals .now) (c .args .hints .now)) (hintedRest s) (records (s .stated) (s .number + 1) (r .rest .now)) (s .number + 1) (stepOf (r .step)) (c .in-Some-put-step .shape) (c .put-step .last .literals) (c .put-step .last .hints) e (c .in-Some-put-step .ensures tt .shape) (c .in-Some-put-step .ensures tt .memory) in
     record { memory = h .0; reads = h .1 }
 
 pub returns-in-None : need.returns-in-None
@@ -30,5 +31,5 @@ returns-in-None c =
     let s = c .args .self .now in
     let r = c .in-Some .record in
     let e = records-first (s .stated) (s .number) (s .rest .now) (stepOf (r .step)) (r .rest .now) (c .if-self-ge-PLACES .left) (c .in-Some .ensures tt) in
-    let h = reads-over-in (memoryOf (c .args .literals .now) (c .args .hints .now)) (memoryOf (c .blank .last .literals) (c .blank .last .hints)) (hintedRest s) (records (s .stated) (s .number + 1) (r .rest .now)) (s .number + 1) (stepOf (r .step)) (c .put-step .last .literals) (c .put-step .last .hints) (search needs) (search needs) e (c .in-None .ensures tt .shape) (c .in-None .ensures tt .memory) in
+    let h = reads-over (memoryOf (c .args .literals .now) (c .args .hints .now)) (hintedRest s) (records (s .stated) (s .number + 1) (r .rest .now)) (s .number + 1) (stepOf (r .step)) (c .put-step .last .literals) (c .put-step .last .hints) e (c .in-None .ensures tt .shape) (c .in-None .ensures tt .memory) in
     record { memory = h .0; reads = h .1 }

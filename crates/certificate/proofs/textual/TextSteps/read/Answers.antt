@@ -1,12 +1,12 @@
 use borrow.Author.Needs.{needs}
-use Rattle.certificate.specs.LineAnswer.{textRest}
+use Rattle.certificate.specs.TextState.{textRest}
 use Rattle.certificate.specs.Reading.{memoryOf}
 use Rattle.certificate.specs.Stream.{finished, broken}
 use Prim.Native.Nat.{_+_}
 use Rattle.certificate.proofs.Answering.{reads-ended}
 use Rattle.certificate.proofs.LineEnds.{lines-none, lines-past, lines-open}
 use Rattle.certificate.proofs.LineReads.{line-read, line-passed, line-refused-at}
-use Rattle.certificate.proofs.plain.TextSteps.read.Needs as need
+use Rattle.certificate.proofs.textual.TextSteps.read.Needs as need
 
 pub returns-then-is-empty : need.returns-then-is-empty
 returns-then-is-empty c =

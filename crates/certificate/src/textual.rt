@@ -1,8 +1,8 @@
 //! The text form.
 ghost use mathlib.Core.Path.{_≡_};
 ghost use Rattle.certificate.specs.Lines.{textual};
-ghost use Rattle.certificate.specs.LineAnswer.{textRest};
-ghost use Rattle.certificate.specs.Writing.{TextBack, TextHeld};
+ghost use Rattle.certificate.specs.TextState.{textRest};
+ghost use Rattle.certificate.specs.Writing.{TextBack, TextFirst, TextHeld};
 use crate::fault::SourceFault;
 use crate::found::Found;
 use crate::line::Unread;
@@ -25,6 +25,7 @@ impl<'a> TextSource<'a> {
     pub fn new(bytes: &'a [u8]) -> TextSource<'a>
         ensures meaning { λ r. ⌜ textRest r ≡ textual (now (bytes .entry)) ⌝ }
         ensures back { λ r. ⌜ TextBack (now (bytes .entry)) (textRest r) ⌝ }
+        ensures first { λ r. ⌜ TextFirst (now (bytes .entry)) (textRest r) ⌝ }
         ensures held { λ r. ⌜ TextHeld (now (bytes .entry)) (textRest r) ⌝ }
     {
         TextSource {
