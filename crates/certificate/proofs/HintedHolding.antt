@@ -2,6 +2,7 @@
 use mathlib.Core.Path.{_≡_, refl, ap, sym, _∙_, subst}
 use mathlib.Core.Bool.{Bool, true, false, cond, _&&_}
 use mathlib.Core.List.{List, [], _∷_, _++_}
+use mathlib.Core.Logic.{_⊎_, inl, inr, ⊎-elim}
 use Prim.Native.Nat.{ℕ, zero, suc, _+_, _-_, _*_, _/_, _%_, _^_, _<_, _≤_}
 use lib.Dec.{eqb, leb, ltb}
 use lib.IntN.{ℤ}
@@ -13,7 +14,7 @@ use native.Mathlib.Omega.{arith}
 use Rattle.std.proofs.shelf.Lists.{append-assoc, append-nil, take-append-drop, length-take-le, length-drop, drop-drop}
 use Rattle.std.proofs.shelf.Equals.{sameBytes-decides}
 use Rattle.std.proofs.shelf.Signed.{ofZ-toZ}
-use Rattle.std.proofs.shelf.Tests.{cond-both, and-parts, leb-true, ltb-false, eqb-true, cases-bool}
+use Rattle.std.proofs.shelf.Tests.{cond-both, and-parts, leb-true, ltb-true, ltb-false, eqb-true, cases-bool}
 use Rattle.std.specs.Options.{mapped}
 use Rattle.std.specs.declared.option.Option.{Option}
 use Rattle.std.specs.declared.option.Option.the-variants.{Some, None}
@@ -21,7 +22,7 @@ use Rattle.text.proofs.Members.{each-each, each-weaker, each-append, each-left,
 use Rattle.text.specs.Lists.{each, eachAll, Each}
 use Rattle.certificate.specs.Form.{mark, isHinted}
 use Rattle.certificate.specs.Hinted.{short, word, words, counted, hintedAddition, additionEntry, deletionEntry, entry, concluded, recordsIn, records, stated, hinted}
-use Rattle.certificate.specs.Stream.{Step, add, delete, Ending, finished, broken, Stream, onTop, ended, unreadable, orUnreadable, numbered, then, whilePlaces}
+use Rattle.certificate.specs.Stream.{Step, add, delete, Ending, finished, broken, Stream, onTop, ended, unreadable, orUnreadable, places, numbered, then, whilePlaces}
 use Rattle.certificate.specs.Writing.{shortBytes, wordBytes, recordBytes, hintedBytes, InRecord, Held, HintedHeld}
 use Rattle.certificate.proofs.FourBytes.{length-each}
 use Rattle.certificate.proofs.Unread.{Within, entry-within}
@@ -166,12 +167,16 @@ record RecordsHeld (o : Option ℕ) (n : ℕ) (bs : List ℕ) (s : Stream) : Typ
   left : List ℕ
   starts : bs ≡ eachAll recordBytes ts ++ left
   whole : s .ending ≡ finished → (left ≡ []) × (o ≡ Some (n + length ts))
+  fault : (p : ℕ) → s .ending ≡ broken p → (p ≡ 0) ⊎ (p ≡ suc (n + length ts))
 
 pub not-broken : {P : Type 0} (p : ℕ) → broken p ≡ finished → P
 not-broken p e = let z : _≡_ {A = ℕ} 0 1 = cc in absurd (omega arith)
 
-broken-held : (o : Option ℕ) (n p : ℕ) (bs : List ℕ) → RecordsHeld o n bs (unreadable p)
-broken-held o n p bs = record { ts = []; steps = refl; good = tt; left = bs; starts = refl; whole = λ e. not-broken p e }
+pub same-place : (p q : ℕ) → broken p ≡ broken q → q ≡ p
+same-place p q e = cc
+
+broken-held : (o : Option ℕ) (n p : ℕ) (bs : List ℕ) → p ≡ suc n → RecordsHeld o n bs (unreadable p)
+broken-held o n p bs e = record { ts = []; steps = refl; good = tt; left = bs; starts = refl; whole = λ f. not-broken p f; fault = λ q f. let g = same-place p q f in inr (omega arith) }
 
 concluded-of : (o : Option ℕ) (n : ℕ) → concluded o n ≡ finished → o ≡ Some (n + 0)
 concluded-of None n e = not-broken 0 e
@@ -181,8 +186,16 @@ concluded-of (Some m) n e = pick (eqb m n) refl e
     pick true q h = ap Some (omega (arith, eqb-true m n q))
     pick false q h = not-broken 0 h
 
+concluded-at : (o : Option ℕ) (n p : ℕ) → concluded o n ≡ broken p → p ≡ 0
+concluded-at None n p e = same-place 0 p e
+concluded-at (Some m) n p e = pick (eqb m n) e
+  where
+    pick : (b : Bool) → cond b finished (broken 0) ≡ broken p → p ≡ 0
+    pick true h = not-broken p (sym h)
+    pick false h = same-place 0 p h
+
 end-held : (o : Option ℕ) (n : ℕ) (bs : List ℕ) → bs ≡ [] → RecordsHeld o n bs (ended (concluded o n))
-end-held o n bs e = record { ts = []; steps = refl; good = tt; left = []; starts = e; whole = λ h. (refl, concluded-of o n h) }
+end-held o n bs e = record { ts = []; steps = refl; good = tt; left = []; starts = e; whole = λ h. (refl, concluded-of o n h); fault = λ p h. inl (concluded-at o n p h) }
 
 step-held : (o : Option ℕ) (n : ℕ) (bs r : List ℕ) (t : Step) (s : Stream) → InRecord t → bs ≡ recordBytes t ++ r → RecordsHeld o (suc n) r s → RecordsHeld o n bs (onTop (record { place = suc n; step = t }) s)
 step-held o n bs r t s p e h =
@@ -195,19 +208,20 @@ step-held o n bs r t s p e h =
       left = h .left;
       starts = e ∙ ap (λ x. recordBytes t ++ x) (h .starts) ∙ sym a;
       whole = λ f. let w = h .whole f in (w .0, w .1 ∙ ap Some q);
+      fault = λ p f. ⊎-elim inl (λ e. inr (e ∙ ap suc q)) (h .fault p f);
     }
 
-records-held : (k : ℕ) (o : Option ℕ) (n : ℕ) (bs : List ℕ) → length bs ≤ k → Each Byte bs → RecordsHeld o n bs (recordsIn k o n bs)
-records-held zero o n [] l h = end-held o n [] refl
-records-held zero o n (b ∷ bs) l h = absurd (omega arith)
-records-held (suc k) o n [] l h = end-held o n [] refl
-records-held (suc k) o n (b ∷ bs) l h =
-    cond-both (ltb n 4294967294) (orUnreadable (suc n) (entry (b ∷ bs)) (λ e. onTop (record { place = suc n; step = e .0 }) (recordsIn k o (suc n) (e .1)))) (unreadable 4294967295) (RecordsHeld o n (b ∷ bs))
-    (λ _. pick (entry (b ∷ bs)) (entry-held b bs (h .1)) (entry-within b bs) (records-held k o (suc n)))
-    (λ _. broken-held o n 4294967295 (b ∷ bs))
+records-held : (k : ℕ) (o : Option ℕ) (n : ℕ) (bs : List ℕ) → n ≤ places → length bs ≤ k → Each Byte bs → RecordsHeld o n bs (recordsIn k o n bs)
+records-held zero o n [] m l h = end-held o n [] refl
+records-held zero o n (b ∷ bs) m l h = absurd (omega arith)
+records-held (suc k) o n [] m l h = end-held o n [] refl
+records-held (suc k) o n (b ∷ bs) m l h =
+    cond-both (ltb n places) (orUnreadable (suc n) (entry (b ∷ bs)) (λ e. onTop (record { place = suc n; step = e .0 }) (recordsIn k o (suc n) (e .1)))) (unreadable (suc places)) (RecordsHeld o n (b ∷ bs))
+    (λ t. let i = ltb-true n places t in pick (entry (b ∷ bs)) (entry-held b bs (h .1)) (entry-within b bs) (λ r. records-held k o (suc n) r (omega arith)))
+    (λ t. let i = ltb-false n places t in broken-held o n (suc places) (b ∷ bs) (omega arith))
   where
     pick : (e : Option (Step × List ℕ)) → If (EntryHeld (b ∷ bs)) e → Within (length bs) e → ((r : List ℕ) → length r ≤ k → Each Byte r → RecordsHeld o (suc n) r (recordsIn k o (suc n) r)) → RecordsHeld o n (b ∷ bs) (orUnreadable (suc n) e (λ e. onTop (record { place = suc n; step = e .0 }) (recordsIn k o (suc n) (e .1))))
-    pick None a w ih = broken-held o n (suc n) (b ∷ bs)
+    pick None a w ih = broken-held o n (suc n) (b ∷ bs) refl
     pick (Some e) a w ih = step-held o n (b ∷ bs) (e .1) (e .0) (recordsIn k o (suc n) (e .1)) (a .0) (a .1) (ih (e .1) (omega arith) (a .2))
 
 trailer-of : (bs : List ℕ) (m : ℕ) → Each Byte bs → stated bs ≡ Some m → bs ≡ wordBytes m ++ drop 4 bs
@@ -226,12 +240,12 @@ marked bs e = sameBytes-decides (drop (length bs - 4) bs) mark .0 e
 pub hinted-held : (bs : List ℕ) → Each Byte bs → isHinted bs ≡ true → HintedHeld bs (hinted bs)
 hinted-held bs h e =
     cond-both (ltb (length bs) 8) (unreadable 0) (records (stated (drop (length bs - 8) bs)) 0 (take (length bs - 8) bs)) (HintedHeld bs)
-    (λ _. record { ts = []; steps = refl; good = tt; left = bs; starts = refl; whole = λ f. not-broken 0 f })
+    (λ _. record { ts = []; steps = refl; good = tt; left = bs; starts = refl; whole = λ f. not-broken 0 f; fault = λ p f. inl (same-place 0 p f) })
     (λ t.
     let l = ltb-false (length bs) 8 t in
     let i = length bs - 8 in
     let all : Each Byte (take i bs ++ drop i bs) = rw (take-append-drop i bs) h in
-    let r = records-held (length (take i bs)) (stated (drop i bs)) 0 (take i bs) (omega arith) (each-left Byte (take i bs) (drop i bs) all) in
+    let r = records-held (length (take i bs)) (stated (drop i bs)) 0 (take i bs) (omega arith) (omega arith) (each-left Byte (take i bs) (drop i bs) all) in
     let d : drop 4 (drop i bs) ≡ mark = drop-drop 4 i bs ∙ ap (λ k. drop k bs) (omega arith) ∙ marked bs e in
     record {
       ts = r .ts;
@@ -246,4 +260,5 @@ hinted-held bs h e =
           let x : take i bs ≡ eachAll recordBytes (r .ts) = r .starts ∙ ap (λ y. eachAll recordBytes (r .ts) ++ y) (w .0) ∙ append-nil (eachAll recordBytes (r .ts)) in
           let y : drop i bs ≡ wordBytes (length (r .ts)) ++ mark = s ∙ ap (λ m. wordBytes (length (r .ts)) ++ m) d in
           sym (take-append-drop i bs) ∙ ap (λ a. a ++ drop i bs) x ∙ ap (λ b. eachAll recordBytes (r .ts) ++ b) y;
+      fault = λ p f. let z : 0 + length (r .ts) ≡ length (r .ts) = omega arith in ⊎-elim inl (λ e. inr (e ∙ ap suc z)) (r .fault p f);
     })

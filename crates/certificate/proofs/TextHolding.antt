@@ -10,7 +10,7 @@ use native.Mathlib.Omega.{arith}
 use Rattle.std.proofs.shelf.Decimals.{decimal-digit}
 use Rattle.std.proofs.shelf.Equals.{sameBytes-decides}
 use Rattle.std.proofs.shelf.Lists.{append-assoc, append-nil}
-use Rattle.std.proofs.shelf.Tests.{cond-both, and-parts, leb-true, eqb-true}
+use Rattle.std.proofs.shelf.Tests.{cond-both, and-parts, leb-true, ltb-true, ltb-false, eqb-true}
 use Rattle.std.specs.Options.{mapped, orOther}
 use Rattle.std.specs.Written as written
 use Rattle.std.specs.declared.option.Option.{Option}
@@ -22,9 +22,9 @@ use Rattle.text.specs.Lists.{each, eachAll, Each}
 use Rattle.text.specs.Literals.{variableOf}
 use Rattle.text.specs.Pieces.{front, pieces}
 use Rattle.certificate.specs.Lines.{isZero, lastWord, literals, clause, deletedNumber, lineStep, afterLines, linesOf, textual}
-use Rattle.certificate.specs.Stream.{Step, add, delete, finished, broken, Stream, onTop, ended, unreadable, orUnreadable, numbered, then, whilePlaces}
+use Rattle.certificate.specs.Stream.{Step, add, delete, finished, broken, Stream, onTop, ended, unreadable, orUnreadable, places, numbered, then, whilePlaces}
 use Rattle.certificate.specs.Writing.{lineBytes, textBytes, InLine, Held, TextHeld}
-use Rattle.certificate.proofs.HintedHolding.{If, not-broken}
+use Rattle.certificate.proofs.HintedHolding.{If, not-broken, same-place}
 use Rattle.certificate.proofs.NumeralsHeld.{decimal-of, signed-of, zero-of, variable-of}
 
 -- pieces put together again
@@ -138,12 +138,13 @@ record LinesHeld (n : ℕ) (bs : List ℕ) (s : Stream) : Type 0 where
   left : List ℕ
   starts : bs ≡ textBytes ts ++ left
   whole : s .ending ≡ finished → left ≡ []
+  fault : (p : ℕ) → s .ending ≡ broken p → p ≡ suc (n + length ts)
 
-broken-lines : (n p : ℕ) (bs : List ℕ) → LinesHeld n bs (unreadable p)
-broken-lines n p bs = record { ts = []; steps = refl; good = tt; left = bs; starts = refl; whole = λ e. not-broken p e }
+broken-lines : (n p : ℕ) (bs : List ℕ) → p ≡ suc n → LinesHeld n bs (unreadable p)
+broken-lines n p bs e = record { ts = []; steps = refl; good = tt; left = bs; starts = refl; whole = λ f. not-broken p f; fault = λ q f. let g = same-place p q f in omega arith }
 
 end-lines : (n : ℕ) → LinesHeld n [] (ended finished)
-end-lines n = record { ts = []; steps = refl; good = tt; left = []; starts = refl; whole = λ e. refl }
+end-lines n = record { ts = []; steps = refl; good = tt; left = []; starts = refl; whole = λ e. refl; fault = λ p e. not-broken p (sym e) }
 
 more-lines : (n : ℕ) (l r : List ℕ) (t : Step) (s : Stream) → LineHeld l t → LinesHeld (suc n) r s → LinesHeld n (l ++ 10 ∷ r) (onTop (record { place = suc n; step = t }) s)
 more-lines n l r t s p h =
@@ -156,24 +157,25 @@ more-lines n l r t s p h =
       left = h .left;
       starts = ap (λ x. x ++ 10 ∷ r) (p .1) ∙ ap (λ x. lineBytes t ++ 10 ∷ x) (h .starts) ∙ sym (a ∙ b);
       whole = h .whole;
+      fault = λ p f. let g = h .fault p f in omega arith;
     }
 
-lines-held : (n : ℕ) (ps : List (List ℕ)) → LinesHeld n (glued 10 ps) (linesOf n ps)
-lines-held n [] = end-lines n
-lines-held n ([] ∷ []) = end-lines n
-lines-held n ((b ∷ l) ∷ []) =
-    cond-both (ltb n 4294967294) (unreadable (suc n)) (unreadable 4294967295) (LinesHeld n (b ∷ l)) (λ _. broken-lines n (suc n) (b ∷ l)) (λ _. broken-lines n 4294967295 (b ∷ l))
-lines-held n (l ∷ m ∷ ls) =
-    cond-both (ltb n 4294967294) (orUnreadable (suc n) (lineStep l) (λ t. onTop (record { place = suc n; step = t }) (linesOf (suc n) (m ∷ ls)))) (unreadable 4294967295) (LinesHeld n (l ++ 10 ∷ glued 10 (m ∷ ls)))
-    (λ _. pick (lineStep l) (line-held l) (lines-held (suc n) (m ∷ ls)))
-    (λ _. broken-lines n 4294967295 (l ++ 10 ∷ glued 10 (m ∷ ls)))
+lines-held : (n : ℕ) (ps : List (List ℕ)) → n ≤ places → LinesHeld n (glued 10 ps) (linesOf n ps)
+lines-held n [] k = end-lines n
+lines-held n ([] ∷ []) k = end-lines n
+lines-held n ((b ∷ l) ∷ []) k =
+    cond-both (ltb n places) (unreadable (suc n)) (unreadable (suc places)) (LinesHeld n (b ∷ l)) (λ _. broken-lines n (suc n) (b ∷ l) refl) (λ t. let i = ltb-false n places t in broken-lines n (suc places) (b ∷ l) (omega arith))
+lines-held n (l ∷ m ∷ ls) k =
+    cond-both (ltb n places) (orUnreadable (suc n) (lineStep l) (λ t. onTop (record { place = suc n; step = t }) (linesOf (suc n) (m ∷ ls)))) (unreadable (suc places)) (LinesHeld n (l ++ 10 ∷ glued 10 (m ∷ ls)))
+    (λ t. let i = ltb-true n places t in pick (lineStep l) (line-held l) (lines-held (suc n) (m ∷ ls) (omega arith)))
+    (λ t. let i = ltb-false n places t in broken-lines n (suc places) (l ++ 10 ∷ glued 10 (m ∷ ls)) (omega arith))
   where
     pick : (o : Option Step) → If (LineHeld l) o → LinesHeld (suc n) (glued 10 (m ∷ ls)) (linesOf (suc n) (m ∷ ls)) → LinesHeld n (l ++ 10 ∷ glued 10 (m ∷ ls)) (orUnreadable (suc n) o (λ t. onTop (record { place = suc n; step = t }) (linesOf (suc n) (m ∷ ls))))
-    pick None a ih = broken-lines n (suc n) (l ++ 10 ∷ glued 10 (m ∷ ls))
+    pick None a ih = broken-lines n (suc n) (l ++ 10 ∷ glued 10 (m ∷ ls)) refl
     pick (Some t) a ih = more-lines n l (glued 10 (m ∷ ls)) t (linesOf (suc n) (m ∷ ls)) a ih
 
 pub textual-held : (bs : List ℕ) → TextHeld bs (textual bs)
 textual-held bs =
-    let h = lines-held 0 (pieces 10 bs) in
+    let h = lines-held 0 (pieces 10 bs) (omega arith) in
     let e = sym (glued-pieces 10 bs) ∙ h .starts in
-    record { ts = h .ts; steps = h .steps; good = h .good; left = h .left; starts = e; whole = λ f. e ∙ ap (λ x. textBytes (h .ts) ++ x) (h .whole f) ∙ append-nil (textBytes (h .ts)) }
+    record { ts = h .ts; steps = h .steps; good = h .good; left = h .left; starts = e; whole = λ f. e ∙ ap (λ x. textBytes (h .ts) ++ x) (h .whole f) ∙ append-nil (textBytes (h .ts)); fault = λ p f. let g = h .fault p f in omega arith }

@@ -1,9 +1,11 @@
 -- The hinted form: records, and after them their number and a mark of four bytes; the lowest byte first throughout.
 -- short, word: the numbers of two and of four bytes; wordIn: that of a list of four; words: the numbers of four bytes each
 -- counted: the bytes of so many words as a count says that stands before them, at most a limit; and the bytes after them
--- entry: the step that bytes begin with, and the bytes after it
+-- hintedAddition: the addition that the bytes of its literals and of its hints write
+-- additionEntry, deletionEntry: the step after its first byte, and the bytes after it; entry: the step that bytes begin with
 -- concluded: what ends the records, by the number stated and their number; none is stated where the trailer is cut short
--- records: the steps in bytes, after so many others; hinted: the meaning of all bytes
+-- recordsIn, records: the steps in bytes, after so many others
+-- stated: the number of records that a trailer states; hinted: the meaning of all bytes
 use mathlib.Core.Bool.{cond, _&&_}
 use mathlib.Core.List.{List, [], _∷_}
 use Prim.Native.Nat.{ℕ, zero, suc, _+_, _-_, _*_}
@@ -61,7 +63,7 @@ abbrev pub concluded : Option ℕ → ℕ → Ending
 concluded None n = broken 0
 concluded (Some m) n = cond (eqb m n) finished (broken 0)
 
--- at most so many of them: a record has a byte at least
+-- at most so many of them: as many as there are bytes are enough, since a record has a byte at least
 abbrev pub recordsIn : ℕ → Option ℕ → ℕ → List ℕ → Stream
 recordsIn zero o n bs = ended (concluded o n)
 recordsIn (suc k) o n [] = ended (concluded o n)

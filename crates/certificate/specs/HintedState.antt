@@ -1,4 +1,6 @@
 -- What the values of the code mean, in the hinted form.
+-- shown: the bytes of counted words, and those after them; stepOf, entryOf: the step of an entry, and of a record
+-- hintedRest: what a source in the hinted form still has
 use mathlib.Core.List.{List}
 use Prim.Native.Nat.{ℕ}
 use denote.Ref.{now}

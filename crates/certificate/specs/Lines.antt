@@ -1,9 +1,10 @@
 -- The text form: lines, each ended by the byte 10, of words parted by one space.
 -- isZero: whether a literal is 0, which ends the literals
+-- lastWord: no literals, if no word is left
 -- literals: the literals that words write, with a 0 after the last and nothing after it; clause: at most 512 of them
 -- deletedNumber: the clause number that words of a deletion write
 -- lineStep: the step of a line
--- linesOf: the steps of lines, after so many others
+-- afterLines: what the bytes after the last line end mean; linesOf: the steps of lines, after so many others
 -- textual: the meaning of all bytes
 use mathlib.Core.Bool.{Bool, false, cond, _&&_}
 use mathlib.Core.List.{List, [], _∷_}
@@ -45,7 +46,6 @@ deletedNumber (d ∷ n ∷ z ∷ w ∷ ws) = None
 abbrev pub lineStep : List ℕ → Option Step
 lineStep l = orOther (mapped delete (deletedNumber (pieces 32 l))) (mapped (λ zs. add zs None) (clause (pieces 32 l)))
 
--- what stands after the last line end
 abbrev pub afterLines : ℕ → List ℕ → Stream
 afterLines n [] = ended finished
 afterLines n (b ∷ l) = whilePlaces n (unreadable (suc n))

@@ -1,4 +1,4 @@
--- The place and the number of each refusal of a source.
+-- refusal: the place and the number of each refusal of a source.
 use Prim.Native.Nat.{ℕ}
 use Rattle.text.specs.Refusal.{Refusal}
 use Rattle.certificate.specs.declared.fault.SourceFault.{SourceFault}

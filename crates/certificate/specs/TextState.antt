@@ -1,4 +1,4 @@
--- What a source in the text form still has.
+-- textRest: what a source in the text form still has.
 use denote.Ref.{now}
 use Rattle.text.specs.Pieces.{pieces}
 use Rattle.certificate.specs.declared.textual.TextSource.{TextSource}

@@ -6,11 +6,12 @@
 -- complete: steps at the places from 1 on, and an end
 -- HintedBack, TextBack: what was written of steps is read as these steps
 -- HintedFirst, TextFirst: whatever stands after it, these steps are read first
--- Held: the steps read stand written from the first byte on, and where the end is read, nothing else does
+-- Held: the steps read stand written from the first byte on; where the end is read, nothing else does, and a fault has its place after them
 -- HintedHeld, TextHeld: this, in either form; CertificateHeld, CertificateFirst: in the form that the last bytes say
 use mathlib.Core.Path.{_≡_}
 use mathlib.Core.List.{List, [], _∷_, _++_}
-use Prim.Native.Nat.{ℕ, _/_, _%_, _^_, _<_, _≤_}
+use mathlib.Core.Logic.{_⊎_}
+use Prim.Native.Nat.{ℕ, suc, _/_, _%_, _^_, _<_, _≤_}
 use lib.ListN.{length}
 use mir.Syntax.{w32}
 use mir.Val.{ofZ, SFits}
@@ -20,7 +21,7 @@ use Rattle.std.specs.Written.{decimal, signed}
 use Rattle.text.specs.Lists.{eachAll, Each}
 use Rattle.text.specs.Literals.{variableOf}
 use Rattle.certificate.specs.Form.{mark, isHinted}
-use Rattle.certificate.specs.Stream.{Step, add, delete, Placed, finished, Stream, places, numbered}
+use Rattle.certificate.specs.Stream.{Step, add, delete, Placed, finished, broken, Stream, places, numbered}
 
 abbrev pub shortBytes : ℕ → List ℕ
 shortBytes n = n % 256 ∷ n / 256 ∷ []
@@ -76,19 +77,20 @@ HintedFirst bs s = (ts : List Step) (r : List ℕ) → Writable InRecord ts → 
 abbrev pub TextFirst : List ℕ → Stream → Type 0
 TextFirst bs s = (ts : List Step) (r : List ℕ) → Writable InLine ts → bs ≡ textBytes ts ++ r → (ps : List Placed) × (s .steps ≡ numbered 0 ts ++ ps)
 
-pub record Held (P : Step → Type 0) (one : Step → List ℕ) (all : List Step → List ℕ) (bs : List ℕ) (s : Stream) : Type 0 where
+pub record Held (P : Step → Type 0) (At : ℕ → ℕ → Type 0) (one : Step → List ℕ) (all : List Step → List ℕ) (bs : List ℕ) (s : Stream) : Type 0 where
   pub ts : List Step
   pub steps : s .steps ≡ numbered 0 ts
   pub good : Each P ts
   pub left : List ℕ
   pub starts : bs ≡ eachAll one ts ++ left
   pub whole : s .ending ≡ finished → bs ≡ all ts
+  pub fault : (p : ℕ) → s .ending ≡ broken p → At (length ts) p
 
 abbrev pub HintedHeld : List ℕ → Stream → Type 0
-HintedHeld bs s = Held InRecord recordBytes hintedBytes bs s
+HintedHeld bs s = Held InRecord (λ n p. (p ≡ 0) ⊎ (p ≡ suc n)) recordBytes hintedBytes bs s
 
 abbrev pub TextHeld : List ℕ → Stream → Type 0
-TextHeld bs s = Held InLine (λ t. lineBytes t ++ 10 ∷ []) textBytes bs s
+TextHeld bs s = Held InLine (λ n p. p ≡ suc n) (λ t. lineBytes t ++ 10 ∷ []) textBytes bs s
 
 abbrev pub CertificateHeld : List ℕ → Stream → Type 0
 CertificateHeld bs s = When (isHinted bs) (HintedHeld bs s) (TextHeld bs s)

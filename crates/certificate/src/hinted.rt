@@ -47,6 +47,7 @@ impl<'a> HintedSource<'a> {
             stated: Some(stated),
         }
     }
+
     /// What is answered when no record is left.
     fn end(&self) -> Result<Option<Found>, SourceFault>
         ensures { λ r. ⌜ r ≡ answered (concluded (now (self .entry) .stated) (now (self .entry) .number)) ⌝ }

@@ -4,14 +4,14 @@ ghost use Rattle.certificate.specs.Reading.{Reads, Leaves, memoryOf};
 use crate::fault::SourceFault;
 use crate::found::Found;
 
-/// How many steps can have a place.
+/// How many steps can have a place: the place after the last is still a number.
 pub const PLACES: u32 = 4_294_967_294;
 
 pub trait Source {
     /// The steps still to come, and what ends them.
     ghost rest: { Self → Stream };
 
-    /// Takes the first step off, into the memory lent.
+    /// Takes the first step off, into the memory lent. All of the memory is written, so each call takes time in its length.
     fn read(
         &mut self,
         literals: &mut [i32],
