@@ -1,6 +1,7 @@
 //! The calls on a cursor over pieces.
 ghost use mathlib.Core.Path.{_≡_};
-ghost use mathlib.Core.List.{[]};
+ghost use mathlib.Core.List.{[], _∷_};
+ghost use Rattle.std.specs.Options.{Cases};
 ghost use Rattle.std.specs.Orderings.{When};
 ghost use Rattle.text.specs.Left.{left, Takes};
 ghost use Rattle.text.specs.Pieces.{pieces};
@@ -23,6 +24,17 @@ impl<'a> Parts<'a> {
             mark,
             done: false,
         }
+    }
+
+    /// All pieces of a text.
+    pub fn whole(text: &'a [u8], mark: u8) -> Parts<'a>
+        ensures { λ r. ⌜ left r ≡ pieces mark (now (text .entry)) ⌝ }
+    {
+        let all = Word {
+            start: 0,
+            len: text.len(),
+        };
+        Parts::new(text, all, mark)
     }
 
     /// Whether no piece is left.
@@ -53,5 +65,14 @@ impl<'a> Parts<'a> {
             start: rest.start,
             len: n,
         })
+    }
+
+    /// Takes the next piece, by its bytes.
+    pub fn next_piece(&mut self) -> Option<&'a [u8]>
+        ensures { λ r. ⌜ Cases r ((left (now (self .entry)) ≡ []) × (left (now (self .exit)) ≡ [])) (λ p. left (now (self .entry)) ≡ now p ∷ left (now (self .exit))) ⌝ }
+    {
+        let text = self.text;
+        let part = self.next_part()?;
+        Some(bytes_of(text, part))
     }
 }

@@ -1,0 +1,16 @@
+pub mod Answering
+pub mod FourBytes
+pub mod HintedHolding
+pub mod HintedWriting
+pub mod Kept
+pub mod LineAnswers
+pub mod LineEnds
+pub mod LineReads
+pub mod Numerals
+pub mod NumeralsHeld
+pub mod Opening
+pub mod Records
+pub mod Spelling
+pub mod TextHolding
+pub mod TextWriting
+pub mod Unread
