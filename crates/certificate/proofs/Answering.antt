@@ -1,18 +1,16 @@
 -- The answer to a reading, by the first step of the source.
-use mathlib.Core.Path.{_≡_, refl, ap, sym, _∙_, subst}
-use mathlib.Core.Bool.{Bool, true, false, cond, not, _&&_}
-use mathlib.Core.List.{List, [], _∷_, _++_}
-use Prim.Native.Nat.{ℕ, _+_, _-_, _≤_}
-use lib.Dec.{leb, T}
+use mathlib.Core.Path.{_≡_, refl, ap, _∙_}
+use mathlib.Core.Bool.{Bool, true, false, cond}
+use mathlib.Core.List.{List, []}
+use Prim.Native.Nat.{ℕ, _-_, _≤_}
 use lib.IntN.{ℤ, pos}
 use lib.ListN.{length, take, replicate, length-append}
 use native.Mathlib.Omega.{arith}
 use Rattle.std.proofs.shelf.Lists.{take-at, length-replicate}
 use Rattle.std.proofs.shelf.Tests.{leb-true, and-parts}
-use Rattle.std.specs.declared.option.Option.{Option}
 use Rattle.std.specs.declared.option.Option.the-variants.{Some, None}
 use Rattle.std.specs.declared.result.Result.the-variants.{Ok, Err}
-use Rattle.certificate.specs.declared.fault.SourceFault.the-variants.{Form, TooMany}
+use Rattle.certificate.specs.declared.fault.SourceFault.the-variants.{TooMany}
 use Rattle.certificate.specs.declared.found.Shape.{Shape}
 use Rattle.certificate.specs.Stream.{Step, add, delete, Ending, finished, broken, Stream, onTop, ended}
 use Rattle.certificate.specs.Reading.{Memory, memoryOf, inMemory, standing, shapeOf, shapeIn, literalsIn, hintsIn, stepIn, literalsOf, hintsOf, Holds, Leaves, Reads, answered}

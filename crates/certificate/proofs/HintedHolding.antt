@@ -1,29 +1,28 @@
 -- The steps that are read of records stand written in them.
-use mathlib.Core.Path.{_≡_, refl, ap, sym, _∙_, subst}
+use mathlib.Core.Path.{_≡_, refl, ap, sym, _∙_}
 use mathlib.Core.Bool.{Bool, true, false, cond, _&&_}
 use mathlib.Core.List.{List, [], _∷_, _++_}
 use mathlib.Core.Logic.{_⊎_, inl, inr, ⊎-elim}
 use Prim.Native.Nat.{ℕ, zero, suc, _+_, _-_, _*_, _/_, _%_, _^_, _<_, _≤_}
 use lib.Dec.{eqb, leb, ltb}
-use lib.IntN.{ℤ}
-use lib.ListN.{length, getD, take, drop, length-append}
+use lib.ListN.{length, getD, take, drop}
 use mir.Syntax.{w8, w32}
 use mir.Val.{Fits, SFits, toZ, ofZ}
 use mir.ValLaws.{toZ-fits}
 use native.Mathlib.Omega.{arith}
-use Rattle.std.proofs.shelf.Lists.{append-assoc, append-nil, take-append-drop, length-take-le, length-drop, drop-drop}
+use Rattle.std.proofs.shelf.Lists.{append-assoc, append-nil, take-append-drop, length-take-le, drop-drop}
 use Rattle.std.proofs.shelf.Equals.{sameBytes-decides}
 use Rattle.std.proofs.shelf.Signed.{ofZ-toZ}
-use Rattle.std.proofs.shelf.Tests.{cond-both, and-parts, leb-true, ltb-true, ltb-false, eqb-true, cases-bool}
+use Rattle.std.proofs.shelf.Tests.{cond-both, and-parts, leb-true, ltb-true, ltb-false, eqb-true}
 use Rattle.std.specs.Options.{mapped}
 use Rattle.std.specs.declared.option.Option.{Option}
 use Rattle.std.specs.declared.option.Option.the-variants.{Some, None}
-use Rattle.text.proofs.Members.{each-each, each-weaker, each-append, each-left, each-right}
+use Rattle.text.proofs.Members.{each-each, each-weaker, each-left, each-right}
 use Rattle.text.specs.Lists.{each, eachAll, Each}
 use Rattle.certificate.specs.Form.{mark, isHinted}
 use Rattle.certificate.specs.Hinted.{short, word, words, counted, hintedAddition, additionEntry, deletionEntry, entry, concluded, recordsIn, records, stated, hinted}
-use Rattle.certificate.specs.Stream.{Step, add, delete, Ending, finished, broken, Stream, onTop, ended, unreadable, orUnreadable, places, numbered, then, whilePlaces}
-use Rattle.certificate.specs.Writing.{shortBytes, wordBytes, recordBytes, hintedBytes, InRecord, Held, HintedHeld}
+use Rattle.certificate.specs.Stream.{Step, finished, broken, Stream, onTop, ended, unreadable, orUnreadable, places, numbered, then}
+use Rattle.certificate.specs.Writing.{shortBytes, wordBytes, recordBytes, InRecord, HintedHeld}
 use Rattle.certificate.proofs.FourBytes.{length-each}
 use Rattle.certificate.proofs.Unread.{Within, entry-within}
 

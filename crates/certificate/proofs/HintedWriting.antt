@@ -2,7 +2,7 @@
 use mathlib.Core.Path.{_≡_, refl, ap, sym, _∙_}
 use mathlib.Core.Bool.{true, false}
 use mathlib.Core.List.{List, [], _∷_, _++_}
-use Prim.Native.Nat.{ℕ, zero, suc, _+_, _-_, _*_, _/_, _%_, _^_, _<_, _≤_}
+use Prim.Native.Nat.{ℕ, zero, suc, _+_, _-_, _*_, _/_, _%_, _≤_}
 use lib.Dec.{eqb, ltb, leb}
 use lib.IntN.{ℤ}
 use lib.ListN.{length, take, drop, length-append}
@@ -13,13 +13,12 @@ use native.Mathlib.Omega.{arith}
 use Rattle.std.proofs.shelf.Lists.{append-assoc, append-nil, take-at, drop-at}
 use Rattle.std.proofs.shelf.Signed.{toZ-ofZ}
 use Rattle.std.proofs.shelf.Tests.{eq-eqb, le-leb, le-ltb}
-use Rattle.std.specs.Options.{mapped}
 use Rattle.std.specs.declared.option.Option.{Option}
 use Rattle.std.specs.declared.option.Option.the-variants.{Some, None}
 use Rattle.text.specs.Lists.{each, eachAll, Each}
 use Rattle.certificate.specs.Form.{mark}
-use Rattle.certificate.specs.Hinted.{short, word, words, counted, hintedAddition, additionEntry, entry, records, stated, hinted}
-use Rattle.certificate.specs.Stream.{Step, add, delete, Placed, finished, Stream, onTop, places, numbered, then}
+use Rattle.certificate.specs.Hinted.{word, words, counted, hintedAddition, additionEntry, entry, records, stated, hinted}
+use Rattle.certificate.specs.Stream.{Step, add, delete, Placed, Stream, onTop, places, numbered}
 use Rattle.certificate.specs.Writing.{shortBytes, wordBytes, recordBytes, hintedBytes, InRecord, Writable, complete, HintedBack, HintedFirst}
 use Rattle.certificate.proofs.Unread.{records-first}
 

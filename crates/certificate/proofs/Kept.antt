@@ -1,22 +1,19 @@
 -- What memory holds for a step, and the answer that follows.
-use mathlib.Core.Path.{_≡_, refl, ap, sym, _∙_, subst}
-use mathlib.Core.Bool.{Bool, true, false, cond, not}
-use mathlib.Core.List.{List, [], _∷_, _++_}
-use mathlib.Core.Logic.{_⊎_, inl, inr}
-use Prim.Native.Nat.{ℕ, _-_, _/_, _<_, _≤_}
-use lib.Dec.{leb, T}
+use mathlib.Core.Path.{_≡_, refl}
+use mathlib.Core.Bool.{true, false}
+use mathlib.Core.List.{List, []}
+use mathlib.Core.Logic.{_⊎_}
+use Prim.Native.Nat.{ℕ, _/_, _<_, _≤_}
 use lib.IntN.{ℤ, pos}
-use lib.ListN.{length, take, replicate}
+use lib.ListN.{length}
 use mir.Syntax.{w32}
 use mir.Val.{toZ}
 use native.Mathlib.Omega.{arith}
 use Rattle.std.proofs.shelf.Ways.{tells}
-use Rattle.std.proofs.shelf.Tests.{le-leb, lt-leb}
-use Rattle.std.specs.declared.option.Option.{Option}
 use Rattle.std.specs.declared.option.Option.the-variants.{Some, None}
 use Rattle.certificate.specs.declared.found.Shape.the-variants.{AddHinted}
 use Rattle.certificate.specs.Hinted.{words, hintedAddition}
-use Rattle.certificate.specs.Stream.{Step, add, delete}
+use Rattle.certificate.specs.Stream.{Step}
 use Rattle.certificate.specs.Reading.{Memory, inMemory, standing, shapeOf, shapeIn, literalsOf, hintsOf, Holds}
 use Rattle.certificate.proofs.FourBytes.{length-words, length-each}
 

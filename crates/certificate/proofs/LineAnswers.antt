@@ -1,18 +1,17 @@
 -- The answer to the reading of a line, and what memory holds then.
-use mathlib.Core.Path.{_≡_, refl, ap, sym, _∙_, subst}
+use mathlib.Core.Path.{_≡_, refl, ap, _∙_, subst}
 use mathlib.Core.Bool.{Bool, true, false, cond}
-use mathlib.Core.List.{List, [], _∷_, _++_}
+use mathlib.Core.List.{List, []}
 use Prim.Native.Nat.{ℕ, _<_, _≤_}
 use lib.Dec.{leb}
 use lib.IntN.{ℤ, pos}
-use lib.ListN.{length, take}
+use lib.ListN.{length}
 use native.Mathlib.Omega.{arith}
 use Rattle.std.proofs.shelf.Lists.{take-all, length-take}
 use Rattle.std.proofs.shelf.Tests.{lt-leb, le-leb}
 use Rattle.std.specs.Options.{mapped, okOr}
 use Rattle.std.specs.declared.option.Option.{Option}
 use Rattle.std.specs.declared.option.Option.the-variants.{Some, None}
-use Rattle.std.specs.declared.result.Result.{Result}
 use Rattle.std.specs.declared.result.Result.the-variants.{Ok, Err}
 use Rattle.text.specs.Pieces.{pieces}
 use Rattle.certificate.specs.declared.found.Shape.{Shape}
@@ -21,7 +20,7 @@ use Rattle.certificate.specs.declared.line.Unread.{Unread}
 use Rattle.certificate.specs.declared.line.Unread.the-variants.{Form, TooMany}
 use Rattle.certificate.specs.Lines.{clause, deletedNumber, lineStep}
 use Rattle.certificate.specs.LineAnswer.{Pushed, clauseAnswer, clauseKept, lineAnswer, LineLeaves}
-use Rattle.certificate.specs.Reading.{Memory, shapeIn, standing, Holds}
+use Rattle.certificate.specs.Reading.{Memory, shapeIn, standing}
 use Rattle.certificate.specs.Stream.{Step, add}
 
 pub clause-over : (ws : List (List ℕ)) (room n : ℕ) (ks js : List ℤ) → Pushed ws room n ks → length ks < n → js ≡ [] → (Err TooMany ≡ clauseAnswer room (clause ws)) × (js ≡ clauseKept room (clause ws))

@@ -4,7 +4,6 @@ use mathlib.Core.List.{List}
 use Prim.Native.Nat.{ℕ, _+_, _-_, _<_, _≤_}
 use lib.IntN.{ℤ}
 use lib.ListN.{length, take, drop}
-use Rattle.std.specs.declared.option.Option.{Option}
 use Rattle.std.specs.declared.option.Option.the-variants.{Some}
 use Rattle.std.specs.declared.result.Result.the-variants.{Ok, Err}
 use Rattle.text.specs.Pieces.{upto, pieces}
@@ -14,7 +13,7 @@ use Rattle.certificate.specs.declared.line.Unread.the-variants.{Form as Unform
 use Rattle.certificate.specs.Lines.{lineStep, linesOf}
 use Rattle.certificate.specs.LineAnswer.{lineAnswer, LineLeaves}
 use Rattle.certificate.specs.Reading.{Memory, Leaves, Reads}
-use Rattle.certificate.specs.Stream.{Step, broken}
+use Rattle.certificate.specs.Stream.{broken}
 use Rattle.certificate.proofs.Answering.{reads-ended, reads-step, reads-over}
 use Rattle.certificate.proofs.LineAnswers.{line-ok, line-over, line-form}
 use Rattle.certificate.proofs.LineEnds.{lines-first, lines-bad}

@@ -1,17 +1,17 @@
 -- A loop over the words of a line: the literals so far, and the words that are left.
 use mathlib.Core.Path.{_≡_, refl, ap, sym, _∙_}
-use mathlib.Core.Bool.{Bool, true, false, cond}
+use mathlib.Core.Bool.{false, cond}
 use mathlib.Core.List.{List, [], _∷_, _++_}
 use mathlib.Core.Logic.{_⊎_, inl, inr}
-use Prim.Native.Nat.{ℕ, suc, _+_, _<_, _≤_}
+use Prim.Native.Nat.{ℕ, _+_, _<_, _≤_}
 use lib.Dec.{leb}
 use lib.IntN.{ℤ, pos, negsuc}
 use lib.ListN.{length, take, length-append}
 use mir.Syntax.{w32}
 use mir.Val.{ofZ}
 use native.Mathlib.Omega.{arith}
-use Rattle.std.proofs.shelf.Lists.{append-assoc, append-nil, take-all, take-append-le, length-push, length-take, take-at}
-use Rattle.std.proofs.shelf.Tests.{lt-leb, le-leb, ne-eqb}
+use Rattle.std.proofs.shelf.Lists.{append-assoc, take-all, take-append-le, length-push, length-take}
+use Rattle.std.proofs.shelf.Tests.{lt-leb, ne-eqb}
 use Rattle.std.specs.Options.{mapped}
 use Rattle.std.specs.declared.option.Option.{Option}
 use Rattle.std.specs.declared.option.Option.the-variants.{Some, None}
@@ -19,8 +19,7 @@ use Rattle.std.specs.declared.result.Result.{Result}
 use Rattle.std.specs.declared.result.Result.the-variants.{Ok, Err}
 use Rattle.text.specs.Rows.{Pushes}
 use Rattle.text.specs.Decimal.{signed}
-use Rattle.certificate.specs.Lines.{isZero, lastWord, literals, clause}
-use Rattle.certificate.specs.LineAnswer.{Pushed}
+use Rattle.certificate.specs.Lines.{isZero, literals, clause}
 use Rattle.certificate.specs.Stream.{then}
 
 pub record SoFar (all rest : List (List ℕ)) (room count : ℕ) (kept : List ℤ) : Type 0 where
@@ -79,36 +78,6 @@ grown-by (Err x) room z ks js p = inr (p .1, p .0)
 pub nonzero : (z : ℤ) → (ofZ w32 z ≡ 0 → ⊥) → isZero z ≡ false
 nonzero (pos n) h = ne-eqb n 0 h
 nonzero (negsuc n) h = refl
-
-clause-none : (all : List (List ℕ)) → literals all ≡ None → clause all ≡ None
-clause-none all e = rw e refl
-
-pub so-far-unsigned : (all ws : List (List ℕ)) (w : List ℕ) (room count : ℕ) (ks : List ℤ) → SoFar all (w ∷ ws) room count ks → None ≡ signed 7 w → clause all ≡ None
-so-far-unsigned all ws w room count ks s e =
-    let n : literals (w ∷ ws) ≡ None = rw (← e) refl in
-    clause-none all (s .whole ∙ (rw n refl))
-
-pub so-far-cut : (all : List (List ℕ)) (room count : ℕ) (ks : List ℤ) → SoFar all [] room count ks → clause all ≡ None
-so-far-cut all room count ks s = clause-none all (s .whole)
-
-zero-last : (z : ℤ) (w : List ℕ) (ws : List (List ℕ)) → Some z ≡ signed 7 w → isZero z ≡ true → literals (w ∷ ws) ≡ lastWord ws
-zero-last z w ws e f = rw (← e, f) refl
-
-pub so-far-zero : (all ws : List (List ℕ)) (w : List ℕ) (room count : ℕ) (z : ℤ) (ks : List ℤ) → SoFar all (w ∷ ws) room count ks → Some z ≡ signed 7 w → isZero z ≡ true → ws ≡ [] → Pushed all room count ks
-so-far-zero all ws w room count z ks s e f n =
-    let h : literals all ≡ Some (s .zs) = s .whole ∙ ap (mapped (λ ys. s .zs ++ ys)) (zero-last z w ws e f ∙ ap lastWord n) ∙ ap Some (append-nil (s .zs)) in
-    let few = s .few in
-    let many = s .many in
-    let l : leb (length (s .zs)) 512 ≡ true = le-leb _ _ (omega arith) in
-    record { zs = s .zs; whole = rw (h, l) refl; many = s .many; first = s .first }
-
-last-none : (ws : List (List ℕ)) → (ws ≡ [] → ⊥) → lastWord ws ≡ None
-last-none [] h = absurd (h refl)
-last-none (w ∷ ws) h = refl
-
-pub so-far-after : (all ws : List (List ℕ)) (w : List ℕ) (room count : ℕ) (z : ℤ) (ks : List ℤ) → SoFar all (w ∷ ws) room count ks → Some z ≡ signed 7 w → isZero z ≡ true → (ws ≡ [] → ⊥) → clause all ≡ None
-so-far-after all ws w room count z ks s e f n =
-    clause-none all (s .whole ∙ ap (mapped (λ ys. s .zs ++ ys)) (zero-last z w ws e f ∙ last-none ws n))
 
 long-none : (zs : List ℤ) (z : ℤ) (o : Option (List ℤ)) → length zs ≡ 512 → then (mapped (λ ys. zs ++ ys) (mapped (λ ys. z ∷ ys) o)) (λ xs. cond (leb (length xs) 512) (Some xs) None) ≡ None
 long-none zs z None e = refl

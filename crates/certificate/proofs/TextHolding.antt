@@ -4,7 +4,7 @@ use mathlib.Core.Bool.{Bool, true, false, cond, _&&_}
 use mathlib.Core.List.{List, [], _∷_, _++_}
 use Prim.Native.Nat.{ℕ, suc, _+_, _^_, _<_, _≤_}
 use lib.Dec.{eqb, leb, ltb}
-use lib.IntN.{ℤ, pos}
+use lib.IntN.{ℤ}
 use lib.ListN.{length}
 use native.Mathlib.Omega.{arith}
 use Rattle.std.proofs.shelf.Decimals.{decimal-digit}
@@ -21,9 +21,9 @@ use Rattle.text.specs.Decimal.{decimal, signed}
 use Rattle.text.specs.Lists.{each, eachAll, Each}
 use Rattle.text.specs.Literals.{variableOf}
 use Rattle.text.specs.Pieces.{front, pieces}
-use Rattle.certificate.specs.Lines.{isZero, lastWord, literals, clause, deletedNumber, lineStep, afterLines, linesOf, textual}
-use Rattle.certificate.specs.Stream.{Step, add, delete, finished, broken, Stream, onTop, ended, unreadable, orUnreadable, places, numbered, then, whilePlaces}
-use Rattle.certificate.specs.Writing.{lineBytes, textBytes, InLine, Held, TextHeld}
+use Rattle.certificate.specs.Lines.{isZero, lastWord, literals, clause, deletedNumber, lineStep, linesOf, textual}
+use Rattle.certificate.specs.Stream.{Step, add, delete, finished, broken, Stream, onTop, ended, unreadable, orUnreadable, places, numbered, then}
+use Rattle.certificate.specs.Writing.{lineBytes, textBytes, InLine, TextHeld}
 use Rattle.certificate.proofs.HintedHolding.{If, not-broken, same-place}
 use Rattle.certificate.proofs.NumeralsHeld.{decimal-of, signed-of, zero-of, variable-of}
 

@@ -1,6 +1,6 @@
 -- Lines that were written are read again.
 use mathlib.Core.Path.{_≡_, refl, ap, sym, _∙_}
-use mathlib.Core.Bool.{Bool, true, false, cond, _&&_}
+use mathlib.Core.Bool.{true, false}
 use mathlib.Core.List.{List, [], _∷_, _++_}
 use Prim.Native.Nat.{ℕ, suc, _+_, _^_, _<_, _≤_}
 use lib.Dec.{eqb, ltb, leb}
@@ -9,19 +9,16 @@ use lib.ListN.{length}
 use native.Mathlib.Omega.{arith}
 use Rattle.std.proofs.shelf.Lists.{append-assoc, append-nil}
 use Rattle.std.proofs.shelf.Tests.{eq-eqb, ne-eqb, le-leb, lt-ltb}
-use Rattle.std.specs.Options.{mapped, orOther}
 use Rattle.std.specs.Written as written
-use Rattle.std.specs.declared.option.Option.{Option}
 use Rattle.std.specs.declared.option.Option.the-variants.{Some, None}
-use Rattle.std.specs.shelf.Text.{sameBytes}
 use Rattle.text.proofs.Cuts.{done-tells}
 use Rattle.text.proofs.Members.{each-append, each-weaker, each-eachAll}
 use Rattle.text.specs.Decimal.{decimal, signed}
 use Rattle.text.specs.Lists.{each, eachAll, Each}
 use Rattle.text.specs.Literals.{variableOf}
-use Rattle.text.specs.Pieces.{front, pieces}
-use Rattle.certificate.specs.Lines.{isZero, literals, clause, deletedNumber, lineStep, linesOf, textual}
-use Rattle.certificate.specs.Stream.{Step, add, delete, finished, Stream, onTop, places, numbered, then}
+use Rattle.text.specs.Pieces.{pieces}
+use Rattle.certificate.specs.Lines.{isZero, literals, deletedNumber, lineStep, linesOf, textual}
+use Rattle.certificate.specs.Stream.{Step, add, delete, Stream, places, numbered}
 use Rattle.certificate.specs.Writing.{lineBytes, textBytes, InLine, Writable, complete, TextBack, TextFirst}
 use Rattle.certificate.proofs.HintedWriting.{before}
 use Rattle.certificate.proofs.LineEnds.{linesOf-next}

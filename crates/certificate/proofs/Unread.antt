@@ -1,6 +1,6 @@
 -- The records that are left after the first.
-use mathlib.Core.Path.{_≡_, refl, ap, sym, _∙_, subst}
-use mathlib.Core.Bool.{Bool, true, false, cond, _&&_}
+use mathlib.Core.Path.{_≡_, refl, ap, sym, subst}
+use mathlib.Core.Bool.{true, false, cond, _&&_}
 use mathlib.Core.List.{List, [], _∷_}
 use Prim.Native.Nat.{ℕ, zero, suc, _+_, _*_, _<_, _≤_}
 use lib.Dec.{eqb, leb, ltb}
@@ -12,8 +12,8 @@ use Rattle.std.proofs.shelf.Tests.{cond-both, lt-ltb, le-ltb}
 use Rattle.std.specs.Options.{mapped}
 use Rattle.std.specs.declared.option.Option.{Option}
 use Rattle.std.specs.declared.option.Option.the-variants.{Some, None}
-use Rattle.certificate.specs.Hinted.{short, counted, hintedAddition, additionEntry, deletionEntry, entry, concluded, recordsIn, records}
-use Rattle.certificate.specs.Stream.{Step, Stream, onTop, ended, unreadable, orUnreadable, then, whilePlaces}
+use Rattle.certificate.specs.Hinted.{short, counted, hintedAddition, additionEntry, deletionEntry, entry, recordsIn, records}
+use Rattle.certificate.specs.Stream.{Step, onTop, unreadable, orUnreadable, then, whilePlaces}
 
 -- no more bytes are left than there were
 abbrev pub Within : {X : Type 0} → ℕ → Option (X × List ℕ) → Type 0

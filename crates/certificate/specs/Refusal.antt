@@ -1,5 +1,4 @@
 -- refusal: the place and the number of each refusal of a source.
-use Prim.Native.Nat.{ℕ}
 use Rattle.text.specs.Refusal.{Refusal}
 use Rattle.certificate.specs.declared.fault.SourceFault.{SourceFault}
 use Rattle.certificate.specs.declared.fault.SourceFault.the-variants.{Form, TooMany}

@@ -1,4 +1,3 @@
-use borrow.Author.Needs.{needs}
 use Rattle.certificate.specs.HintedState.{hintedRest}
 use Rattle.certificate.specs.TextState.{textRest}
 use Rattle.certificate.proofs.Opening.{opens-hinted, opens-text, opened-hinted, opened-text, opened-first, opened-held}

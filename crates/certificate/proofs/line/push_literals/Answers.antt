@@ -1,6 +1,4 @@
 use borrow.Author.Needs.{needs}
-use mathlib.Core.Path.{_≡_, sym}
-use mathlib.Core.Bool.{false}
 use mathlib.Core.List.{_∷_}
 use mir.Syntax.{w32}
 use mir.Val.{SFits}
@@ -8,7 +6,6 @@ use Rattle.std.proofs.shelf.Signed.{toZ-ofZ}
 use Rattle.text.specs.Left.{left}
 use Rattle.text.specs.Pieces.{pieces}
 use Rattle.text.specs.Rows.{items, room}
-use Rattle.certificate.specs.Lines.{isZero}
 use Rattle.certificate.proofs.Spelling.{SoFar, so-far-none, so-far-more, so-far-long, grown-by, nonzero}
 use Rattle.certificate.proofs.line.push_literals.Needs as need
 
