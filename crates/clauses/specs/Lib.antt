@@ -1,0 +1,4 @@
+pub mod Propagation
+pub mod ClauseBase
+pub mod Numbers
+pub mod Calls
