@@ -2,3 +2,8 @@ pub mod Propagation
 pub mod ClauseBase
 pub mod Numbers
 pub mod Calls
+pub mod Rows
+pub mod Stored
+pub mod Finding
+pub mod Growth
+pub mod Closing

@@ -2,3 +2,5 @@
 pub mod base;
 pub mod fault;
 pub mod room;
+pub mod row;
+mod store;
