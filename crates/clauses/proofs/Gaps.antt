@@ -19,6 +19,7 @@ use Rattle.clauses.specs.Closing.{Closed, Closing}
 use Rattle.clauses.specs.declared.row.Row.{Row}
 use Rattle.clauses.specs.declared.store.Store.{Store}
 use Rattle.clauses.proofs.Keeping.{held-append, held-first, count-append}
+use Rattle.clauses.proofs.Memory.{row-speaks}
 use Rattle.clauses.proofs.Growing.{Appended, appended-of, appended-sound, appended-held, dense-push, row-old, row-new}
 
 -- lists that agree from n on
@@ -87,13 +88,6 @@ module _ (s t : Store) (k : ℕ) (ok : Sound s) (lt : k < s .count) (cl : Closin
   same-span : span (t .literals .now) (rowAt (t .rows .now) k) ≡ span (s .literals .now) (rowAt (s .rows .now) k)
   same-span = rw row-kept (ap (take (rowAt (s .rows .now) k .len)) (drop-on (t .literals .now) (s .literals .now) (t .filled) (rowAt (s .rows .now) k .start) (cl .above k (omega arith) lt) (cl .beyond)))
 
-  speaks : Speaks (span (s .literals .now) (rowAt (s .rows .now) k)) (s .variables)
-  speaks j h =
-      let r = rowAt (s .rows .now) k in
-      let n : length (span (s .literals .now) r) ≡ r .len = stretch-long (s .literals .now) (r .start) (r .len) (omega (arith, ok .spans k lt, ok .within)) in
-      let e : getD (span (s .literals .now) r) j (pos 0) ≡ getD (s .literals .now) (r .start + j) (pos 0) = getD-take (r .len) (drop (r .start) (s .literals .now)) j (pos 0) (omega arith) ∙ getD-drop (r .start) (s .literals .now) j (pos 0) in
-      rw e (ok .named (r .start + j) (omega (arith, ok .spans k lt)))
-
   held-next : heldIn (s .literals .now) (take (k + 1) (s .rows .now)) ≡ heldIn (s .literals .now) (take k (s .rows .now)) ++ heldIn (s .literals .now) (rowAt (s .rows .now) k ∷ [])
   held-next = ap (heldIn (s .literals .now)) (take-more (s .rows .now) k noRow (omega (arith, ok .counted))) ∙ held-append (s .literals .now) (take k (s .rows .now)) (rowAt (s .rows .now) k ∷ [])
 
@@ -135,7 +129,7 @@ module _ (s t : Store) (k : ℕ) (ok : Sound s) (lt : k < s .count) (cl : Closin
       let fh : literalCount (held u) ≡ literalCount (held t) + (length c + 0) = ap literalCount h ∙ count-append (held t) (record { number = r .number; literals = c } ∷ []) in
       let one : heldIn (s .literals .now) (rowAt (s .rows .now) k ∷ []) ≡ record { number = r .number; literals = c } ∷ [] = held-first (s .literals .now) (rowAt (s .rows .now) k) [] ∙ rw (l, num, same-span) in
       record {
-        sound = appended-sound t u (r .number) c (cl .sound) space fits a (omega (arith, row-above .0, row-above .1, ok .small)) (rw (same-span, cl .variables′) speaks) up (omega (arith, num, ok .under k lt)) (omega (arith, cl .next′));
+        sound = appended-sound t u (r .number) c (cl .sound) space fits a (omega (arith, row-above .0, row-above .1, ok .small)) (rw (same-span, cl .variables′) (row-speaks s k ok lt)) up (omega (arith, num, ok .under k lt)) (omega (arith, cl .next′));
         behind = rw (a .rows, a .count) (drop-set-lt (t .count + 1) (t .rows .now) (t .count) _ (omega arith) ∙ drop-on (t .rows .now) (s .rows .now) (t .count) (t .count + 1) (omega arith) (cl .behind));
         beyond = rw (a .filled, se .literals) (cp .rest ∙ drop-on (t .literals .now) (s .literals .now) (t .filled) (t .filled + length c) (omega arith) (cl .beyond));
         long = ap length (a .rows) ∙ length-set _ _ _ ∙ cl .long;

@@ -18,7 +18,7 @@ use Rattle.clauses.specs.Rows.{rowAt, span, heldOf, heldIn, Rising}
 use Rattle.clauses.specs.declared.row.Row.{Row}
 
 -- the clauses of a row and those of the rows after it
-abbrev onto : List ℤ → Row → List Held → Bool → List Held
+abbrev pub onto : List ℤ → Row → List Held → Bool → List Held
 onto lits r hs true = heldOf lits r ∷ hs
 onto lits r hs false = hs
 

@@ -7,3 +7,11 @@ pub mod Stored
 pub mod Finding
 pub mod Growth
 pub mod Closing
+pub mod Cells
+pub mod Status
+pub mod Codes
+pub mod Linked
+pub mod Engine
+pub mod Counting
+pub mod Events
+pub mod Counters
