@@ -3,6 +3,8 @@ pub mod Growing
 pub mod Memory
 pub mod Gaps
 pub mod Finds
+pub mod Forms
+pub mod Spaces
 pub mod Theory
 pub mod Scanning
 pub mod Statuses

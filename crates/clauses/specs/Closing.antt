@@ -1,8 +1,12 @@
 -- A store whose gaps are closed.
+-- roomFor: whether so many clauses and literals leave room for one clause more
+-- Spacious: whether the live clauses leave room for one more, which then lies behind those in use
 -- Closed: the same clauses, with no gap; Closing: the rows below k were brought down
 use mathlib.Core.Path.{_≡_}
+use mathlib.Core.Bool.{Bool, true, _&&_}
 use mathlib.Core.List.{List}
-use Prim.Native.Nat.{ℕ, _≤_, _<_}
+use Prim.Native.Nat.{ℕ, suc, _+_, _≤_, _<_}
+use lib.Dec.{leb}
 use lib.IntN.{ℤ}
 use lib.ListN.{length, take, drop}
 use Rattle.clauses.specs.ClauseBase.{literalCount}
@@ -10,6 +14,17 @@ use Rattle.clauses.specs.Rows.{rowAt, heldIn, Dense}
 use Rattle.clauses.specs.Stored.{held, Sound, Kept}
 use Rattle.clauses.specs.declared.row.Row.{Row}
 use Rattle.clauses.specs.declared.store.Store.{Store}
+
+abbrev pub roomFor : ℕ → ℕ → ℕ → Store → Bool
+roomFor count filled len s = leb (suc count) (length (s .rows .now)) && leb (filled + len) (length (s .literals .now))
+
+pub record Spacious (s t : Store) (len : ℕ) (r : Bool) : Type 0 where
+  pub sound : Sound t
+  pub kept : Kept s t
+  pub next : t .next ≡ s .next
+  pub clauses : held t ≡ held s
+  pub answer : r ≡ roomFor (length (held s)) (literalCount (held s)) len s
+  pub behind : r ≡ true → (t .count < length (t .rows .now)) × (t .filled + len ≤ length (t .literals .now))
 
 pub record Closed (s t : Store) : Type 0 where
   pub sound : Sound t

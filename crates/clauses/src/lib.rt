@@ -2,10 +2,13 @@
 pub mod base;
 mod counters;
 pub mod fault;
+mod form;
 mod index;
 mod indexing;
 mod literal;
 mod look;
+pub mod mark;
+mod phase;
 pub mod room;
 pub mod row;
 mod scan;

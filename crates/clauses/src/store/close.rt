@@ -1,9 +1,10 @@
 //! Gaps that deletions left.
 ghost use Prim.Native.Nat.{_+_, _<_, _≤_};
-ghost use Rattle.clauses.specs.Closing.{Closed};
+ghost use Rattle.clauses.specs.Closing.{roomFor, Closed, Spacious};
 ghost use Rattle.clauses.specs.Growth.{Copied};
 ghost use Rattle.clauses.specs.Stored.{Sound};
 ghost use lib.ListN.{drop, length, take};
+ghost use mathlib.Core.Path.{_≡_};
 use super::Store;
 
 impl Store<'_> {
@@ -37,5 +38,25 @@ impl Store<'_> {
                 self.seal(row.number, row.len as usize);
             }
         }
+    }
+
+    /// Whether one more clause of so many literals has room. Gaps are closed only where they are needed.
+    pub fn make_room(&mut self, len: usize) -> bool
+        requires { ⌜ Sound (now self) ⌝ }
+        ensures { λ r. ⌜ Spacious (now (self .entry)) (now (self .exit)) len r ⌝ }
+    {
+        if self.has_room(len) {
+            return true;
+        }
+        self.close();
+        self.has_room(len)
+    }
+
+    /// Whether there is room behind the rows and literals in use.
+    fn has_room(&self, len: usize) -> bool
+        requires { ⌜ Sound (now self) ⌝ }
+        ensures { λ r. ⌜ r ≡ roomFor (now (self .entry) .count) (now (self .entry) .filled) len (now (self .entry)) ⌝ }
+    {
+        self.count < self.rows.len() && len <= self.literals.len() - self.filled
     }
 }
