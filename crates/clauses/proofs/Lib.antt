@@ -18,3 +18,4 @@ pub mod Entries
 pub mod Walks
 pub mod Counts
 pub mod Tellings
+pub mod Commons

@@ -78,6 +78,9 @@ row-speaks s k ok kc j jl =
 pub speaks-placed : (c : Clause) (variables n : ℕ) → variables ≤ n - 1 → Speaks c variables → Placed c n
 speaks-placed c variables n le h k kc = omega (arith, h k kc)
 
+pub named-none : (lits : List ℤ) (variables : ℕ) → Named lits 0 variables
+named-none lits variables k h = absurd (omega arith)
+
 -- one more literal, at the end
 pub named-push : (lits : List ℤ) (n variables : ℕ) (l : ℤ) → SFits w32 l → n < length lits → Named lits n variables → variableOf l - 1 < variables → Named (set lits n (toZ w32 (ofZ w32 l))) (n + 1) variables
 named-push lits n variables l fits lt h le =

@@ -15,3 +15,6 @@ pub mod Engine
 pub mod Counting
 pub mod Events
 pub mod Counters
+pub mod Common
+pub mod Trying
+pub mod Rooms

@@ -1,8 +1,9 @@
 -- What a store holds and keeps.
 -- held: its live clauses; Sound: its rows and literals fit together
 -- Kept: what no call on rows and literals changes
+-- Cleared: a store with no clause
 use mathlib.Core.Path.{_≡_}
-use mathlib.Core.List.{List}
+use mathlib.Core.List.{List, []}
 use Prim.Native.Nat.{ℕ, _^_, _≤_, _<_}
 use lib.ListN.{length, take}
 use Rattle.clauses.specs.Propagation.{Held}
@@ -26,3 +27,11 @@ pub record Kept (s t : Store) : Type 0 where
   pub rows : length (t .rows .now) ≡ length (s .rows .now)
   pub literals : length (t .literals .now) ≡ length (s .literals .now)
   pub variables : t .variables ≡ s .variables
+
+pub record Cleared (s t : Store) (variables : ℕ) : Type 0 where
+  pub sound : Sound t
+  pub rows : length (t .rows .now) ≡ length (s .rows .now)
+  pub literals : length (t .literals .now) ≡ length (s .literals .now)
+  pub variables′ : t .variables ≡ variables
+  pub next : t .next ≡ 1
+  pub clauses : held t ≡ []

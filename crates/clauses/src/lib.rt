@@ -1,6 +1,8 @@
 //! Clause bases: whether a clause follows from the clauses held, by unit propagation.
 pub mod base;
+mod common;
 mod counters;
+pub mod counting;
 pub mod fault;
 mod form;
 mod index;

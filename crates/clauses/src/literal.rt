@@ -6,6 +6,7 @@ ghost use Rattle.clauses.specs.Propagation.{value};
 ghost use Rattle.std.specs.declared.option.Option.the-variants.{Some};
 ghost use Rattle.text.specs.Literals.{positive, variableOf};
 ghost use lib.ListN.{length, set};
+ghost use mathlib.Core.Bool.{not};
 ghost use mathlib.Core.Path.{_≡_};
 
 /// The variable that a literal speaks of.
@@ -54,4 +55,12 @@ pub fn assign(values: &mut [Option<bool>], literal: i32)
     ensures { λ _. ⌜ now (values .exit) ≡ set (now (values .entry)) (variableOf literal) (Some (positive literal)) ⌝ }
 {
     values[variable(literal)] = Some(literal >= 0);
+}
+
+/// Makes the literal false.
+pub fn deny(values: &mut [Option<bool>], literal: i32)
+    requires { ⌜ variableOf literal < length (now values) ⌝ }
+    ensures { λ _. ⌜ now (values .exit) ≡ set (now (values .entry)) (variableOf literal) (Some (not (positive literal))) ⌝ }
+{
+    values[variable(literal)] = Some(literal < 0);
 }

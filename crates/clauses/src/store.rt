@@ -1,7 +1,7 @@
 //! Clauses in memory that is lent.
 ghost use Prim.Native.Nat.{_<_};
 ghost use Rattle.clauses.specs.Rows.{rowAt, span};
-ghost use Rattle.clauses.specs.Stored.{Sound};
+ghost use Rattle.clauses.specs.Stored.{Cleared, Sound};
 ghost use mathlib.Core.Path.{_≡_};
 use crate::row::Row;
 
@@ -31,5 +31,15 @@ impl Store<'_> {
         let start = row.start as usize;
         let end = start + row.len as usize;
         &self.literals[start..end]
+    }
+
+    /// No clause, and so many variables.
+    pub fn clear(&mut self, variables: u32)
+        ensures { λ _. ⌜ Cleared (now (self .entry)) (now (self .exit)) variables ⌝ }
+    {
+        self.count = 0;
+        self.filled = 0;
+        self.variables = variables;
+        self.next = 1;
     }
 }
