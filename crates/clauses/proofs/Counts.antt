@@ -76,7 +76,7 @@ non-false-below f g up (m ∷ ms) = go (value f m) refl (non-false-below f g up 
     go (Some false) e h = let p : bit (not (isFalse (value g m))) ≡ 0 = ap (λ (o : Option Bool). bit (not (isFalse o))) (value-below f g up m false e) in omega (arith, a, b)
 
 -- a literal that is false in g and not in f: the trail made it so
-late : (f g : Values) (t : Trail) (low : ℕ) (m : ℤ) → Gap f g t low → value g m ≡ Some false → (value f m ≡ Some false) ⊎ ((q : ℕ) × (low ≤ q) × (q < t .tail) × Against (getD (t .literals .now) q (pos 0)) m)
+pub late : (f g : Values) (t : Trail) (low : ℕ) (m : ℤ) → Gap f g t low → value g m ≡ Some false → (value f m ≡ Some false) ⊎ ((q : ℕ) × (low ≤ q) × (q < t .tail) × Against (getD (t .literals .now) q (pos 0)) m)
 late f g t low (pos v) gap e = go (gap v false e)
   where
     go : (f v ≡ Some false) ⊎ ((q : ℕ) × (low ≤ q) × (q < t .tail) × Gives t q v false) → (f v ≡ Some false) ⊎ ((q : ℕ) × (low ≤ q) × (q < t .tail) × Against (getD (t .literals .now) q (pos 0)) (pos v))

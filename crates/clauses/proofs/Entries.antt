@@ -44,7 +44,7 @@ module _ (x y : Index) (code owner : ℕ) (ok : Linked x) (lt : code < x .lists)
   pub listed-new : Listed y code owner
   listed-new = (x .used, rw heads (on-new (y .next .now) (x .heads .now) (x .used) code 0 (omega (arith, ok .listed))), rw owners (getD-set-same (x .owners .now) (x .used) owner 0 ol))
 
-code-bound : (l : ℤ) → codeOf l ≤ 2 * variableOf l + 1
+pub code-bound : (l : ℤ) → codeOf l ≤ 2 * variableOf l + 1
 code-bound l = go (positive l)
   where
     go : (b : Bool) → 2 * variableOf l + cond b 0 1 ≤ 2 * variableOf l + 1

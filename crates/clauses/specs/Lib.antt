@@ -18,3 +18,5 @@ pub mod Counters
 pub mod Common
 pub mod Trying
 pub mod Rooms
+pub mod Passes
+pub mod Watching

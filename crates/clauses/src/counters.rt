@@ -5,30 +5,18 @@ ghost use Rattle.clauses.specs.Counters.{Told};
 ghost use Rattle.clauses.specs.Counting.{nonFalse};
 ghost use Rattle.clauses.specs.Engine.{Advanced, Ready};
 ghost use Rattle.clauses.specs.Events.{Fit, Indexed, Pending};
-ghost use Rattle.clauses.specs.Propagation.{isFalse, value, Refuted};
+ghost use Rattle.clauses.specs.Propagation.{Refuted};
 ghost use Rattle.clauses.specs.Stored.{held};
 ghost use Rattle.std.specs.Orderings.{Decides};
-ghost use Rattle.text.specs.Literals.{variableOf};
 ghost use lib.ListN.{length};
-ghost use mathlib.Core.Bool.{false, not};
+ghost use mathlib.Core.Bool.{false};
 ghost use mathlib.Core.Path.{_≡_};
 use crate::index::Index;
 use crate::literal::code_against;
-use crate::literal::read;
+use crate::literal::is_open;
 use crate::look::examine;
 use crate::store::Store;
 use crate::trail::Trail;
-
-/// Whether a literal is not false.
-fn is_open(values: &[Option<bool>], literal: i32) -> bool
-    requires { ⌜ variableOf literal < length (now values) ⌝ }
-    ensures { λ r. ⌜ r ≡ not (isFalse (value (valuesOf (now (values .entry))) literal)) ⌝ }
-{
-    match read(values, literal) {
-        Some(b) => b,
-        None => true,
-    }
-}
 
 /// How many literals of the clause are not false.
 fn count_open(clause: &[i32], values: &[Option<bool>]) -> u32

@@ -2,7 +2,7 @@
 ghost use Prim.Native.Nat.{_+_, _*_, _<_, _≤_};
 ghost use Rattle.clauses.specs.Cells.{valuesOf};
 ghost use Rattle.clauses.specs.Codes.{codeAgainst, codeOf};
-ghost use Rattle.clauses.specs.Propagation.{value};
+ghost use Rattle.clauses.specs.Propagation.{isFalse, value};
 ghost use Rattle.std.specs.declared.option.Option.the-variants.{Some};
 ghost use Rattle.text.specs.Literals.{positive, variableOf};
 ghost use lib.ListN.{length, set};
@@ -46,6 +46,17 @@ pub fn read(values: &[Option<bool>], literal: i32) -> Option<bool>
     match found {
         Some(b) => Some(!b),
         None => None,
+    }
+}
+
+/// Whether a literal is not false.
+pub fn is_open(values: &[Option<bool>], literal: i32) -> bool
+    requires { ⌜ variableOf literal < length (now values) ⌝ }
+    ensures { λ r. ⌜ r ≡ not (isFalse (value (valuesOf (now (values .entry))) literal)) ⌝ }
+{
+    match read(values, literal) {
+        Some(b) => b,
+        None => true,
     }
 }
 

@@ -1,6 +1,6 @@
 //! Where a trial stands.
 
-#[derive(Clone, Copy, PartialEq, Eq, Debug)]
+#[derive(Clone, Copy)]
 pub enum Phase {
     Idle,
     Open,

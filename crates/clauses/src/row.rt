@@ -1,7 +1,7 @@
 //! Where a clause lies in memory.
 
 /// A clause's number, and its stretch of a store's literals. A row that is not live holds its place only.
-#[derive(Clone, Copy, PartialEq, Eq, Debug)]
+#[derive(Clone, Copy)]
 pub struct Row {
     pub(crate) number: u32,
     pub(crate) start: u32,
