@@ -5,7 +5,7 @@ ghost use lib.ListN.{length};
 use crate::common::Common;
 use crate::index::Index;
 
-mod calls;
+pub mod calls;
 mod new;
 mod run;
 
