@@ -13,8 +13,8 @@ use Rattle.std.proofs.shelf.Tests.{lt-ltb, le-ltb, cases-eq}
 use Rattle.std.specs.declared.option.Option.the-variants.{Some, None}
 use Rattle.text.specs.Pieces.{upto, pieces}
 use Rattle.text.proofs.Cuts.{pieces-whole, pieces-cut, done-tells, upto-le}
-use Rattle.certificate.specs.Lines.{lineStep, linesOf, afterLines}
-use Rattle.certificate.specs.Stream.{Step, finished, Stream, onTop, ended, unreadable, orUnreadable, whilePlaces}
+use Rattle.certificate.specs.Lines.{lineStep, linesOf}
+use Rattle.certificate.specs.Stream.{Step, finished, onTop, ended, unreadable, orUnreadable, whilePlaces}
 
 pub lines-none : (n : ℕ) (bs : List ℕ) → length bs ≡ 0 → linesOf n (pieces 10 bs) ≡ ended finished
 lines-none n [] e = refl
