@@ -1,0 +1,3 @@
+//! Tests of the call from three files to the line.
+#[cfg(test)]
+mod tests;
