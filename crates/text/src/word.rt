@@ -11,7 +11,7 @@ pub struct Word {
 }
 
 /// The part without what lies past the end of the text.
-pub fn clamped(text: &[u8], word: Word) -> Word
+pub(crate) fn clamped(text: &[u8], word: Word) -> Word
     ensures same { λ r. ⌜ wordIn (now (text .entry)) r ≡ wordIn (now (text .entry)) word ⌝ }
     ensures inside { λ r. ⌜ Inside (length (now (text .entry))) r ⌝ }
 {

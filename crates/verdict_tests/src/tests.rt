@@ -8,13 +8,15 @@ use verdict::line::Line;
 use verdict::line::write_line;
 
 /// Two versions of two components; the second ones are asked for.
-const GEARBOX: &[u8] = b"package: can\nversion: 1\nconflicts: can\ninstalled: true\n\npackage: can\nversion: 2\nconflicts: can\n\npackage: shift\nversion: 1\ndepends: can = 1\ninstalled: true\n\npackage: shift\nversion: 2\ndepends: can >= 2\n\nrequest: \ninstall: shift > 1\nremove: shift = 1\n";
+const GEARBOX: &[u8] =
+    b"package: can\nversion: 1\nconflicts: can\ninstalled: true\n\npackage: can\nversion: 2\nconflicts: can\n\npackage: shift\nversion: 1\ndepends: can = 1\ninstalled: true\n\npackage: shift\nversion: 2\ndepends: can >= 2\n\nrequest: \ninstall: shift > 1\nremove: shift = 1\n";
 
 const SECOND_VERSIONS: &[u8] =
     b"package: can\nversion: 2\ninstalled: true\n\npackage: shift\nversion: 2\ninstalled: true\n";
 
 /// What is asked for cannot be had.
-const IMPOSSIBLE: &[u8] = b"package: a\nversion: 1\ndepends: b\nconflicts: b\n\npackage: b\nversion: 1\ndepends: a\n\npackage: g\nversion: 1\ndepends: a | b\n\nrequest:\ninstall: g\n";
+const IMPOSSIBLE: &[u8] =
+    b"package: a\nversion: 1\ndepends: b\nconflicts: b\n\npackage: b\nversion: 1\ndepends: a\n\npackage: g\nversion: 1\ndepends: a | b\n\nrequest:\ninstall: g\n";
 
 const LAST: &[u8] = b"package: g\nversion: 1\ninstalled: true\n";
 
