@@ -274,9 +274,6 @@ nowhere-more w i lt h =
     (λ k ki. let ne : k ≢ i = omega arith in rw (getD-set-other w i k 4294967295 0 ne) (h k ki))
     (getD-set-same w i 4294967295 0 lt)
 
-pub nowhere-all : (w : List ℕ) (n m : ℕ) → n ≡ m → ((k : ℕ) → k < n → getD w k 0 ≡ 4294967295) → (k : ℕ) → k < m → getD w k 0 ≡ 4294967295
-nowhere-all w n m e h k lt = h k (omega arith)
-
 -- the row's two places were written
 places-others : (w : List ℕ) (k p q : ℕ) (j : ℕ) → (j ≡ 2 * k → ⊥) → (j ≡ 2 * k + 1 → ⊥) → getD (set (set w (2 * k) p) (2 * k + 1) q) j 0 ≡ getD w j 0
 places-others w k p q j a b = getD-set-other (set w (2 * k) p) (2 * k + 1) j q 0 b ∙ getD-set-other w (2 * k) j p 0 a
@@ -390,6 +387,3 @@ begun-none s x w xs t ready g e h =
       same = same-none x;
       room = refl;
     }
-
-pub guards-none : (s : Store) (x : Index) → Linked x → x .used ≡ 0 → 2 * s .variables ≤ x .lists - 2 → s .filled ≤ length (x .next .now) → s .filled ≤ length (x .owners .now) → Guards s x
-guards-none s x ok e heads next owners = record { linked = ok; heads = heads; next = next; owners = owners; owned = λ k h. absurd (omega arith) }
