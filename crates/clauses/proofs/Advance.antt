@@ -27,11 +27,6 @@ use Rattle.clauses.proofs.Theory.{reached-none, reached-more, refuted-on}
 use Rattle.clauses.proofs.Memory.{named-push}
 use Rattle.clauses.proofs.OneRow.{row-forced, row-literal}
 
--- after the steps from xs to ys, the next ones
-pub advanced-more : (live : List Held) (xs ys zs : List (Option Bool)) (r : Bool) → Reached live (valuesOf xs) (valuesOf ys) → Advanced live ys zs r → Advanced live xs zs r
-advanced-more live xs ys zs true p q = p .back q
-advanced-more live xs ys zs false p q = reached-more live (valuesOf xs) (valuesOf ys) (valuesOf zs) p q
-
 -- what is decided of ys is decided of xs
 pub decided-before : (live : List Held) (xs ys : List (Option Bool)) (r : Bool) → Reached live (valuesOf xs) (valuesOf ys) → Decides r (Refuted live (valuesOf ys)) → Decides r (Refuted live (valuesOf xs))
 decided-before live xs ys r p d = ((λ e. p .back (d .0 e)), λ q. d .1 (refuted-on live (valuesOf xs) (valuesOf ys) p q))

@@ -80,11 +80,6 @@ module _ (c d : Common) (n k : ℕ) (ok : Sane c) (p : c .phase ≡ Open) (lt : 
   pub said-useless : d .phase ≡ Open → Followed (c .values .cells .now) (d .values .cells .now) (clauseAt (c .store) k) Useless → Hints (meaningOf c) n (Ok Useless) (meaningOf d)
   said-useless q f = (rw p (clauseAt (c .store) k, (at, (λ h. no-conflict (valuesOf (c .values .cells .now)) (clauseAt (c .store) k) h (f .0)), settled-unit (valuesOf (c .values .cells .now)) (clauseAt (c .store) k) (f .0), rw (q, f .1))), rest _ refl)
 
-pub not-open : (p : Phase) (xs : List (Option Bool)) → (p ≡ Open → ⊥) → NotRunning (trialOf p xs)
-not-open Idle xs h = tt
-not-open Open xs h = h refl
-not-open Answered xs h = tt
-
 -- cells that are unset, one by one
 pub unset-more : (xs : List (Option Bool)) (i : ℕ) → i < length xs → ((k : ℕ) → k < i → getD xs k None ≡ None) → (k : ℕ) → k < i + 1 → getD (set xs i None) k None ≡ None
 unset-more xs i lt h =

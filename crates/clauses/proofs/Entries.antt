@@ -111,9 +111,6 @@ entering-all s x₀ x k i lt le ge e =
       tallied = below-more (λ r. (code : ℕ) → code < x .lists → Tally (x .next .now) (x .owners .now) r (getD (x .heads .now) code 0) (hits code (clauseAt s r))) k (e .tallied) (λ code cl. rw (take-all i (clauseAt s k) ge) at (e .some code cl));
     }
 
-pub indexed-none : (s : Store) (x : Index) → x .used ≡ 0 → Indexed s x 0
-indexed-none s x e = record { whole = λ r h. absurd (omega arith); owned = λ k h. absurd (omega arith); room = λ r h i. omega arith; tallied = λ r h. absurd (omega arith) }
-
 -- the code of a literal that was read
 pub read-code : (cl dl : List ℤ) (i code : ℕ) → SFits w32 (getD cl i (pos 0)) → cl ≡ dl → code ≡ codeOf (toZ w32 (ofZ w32 (getD cl i (pos 0)))) → code ≡ codeOf (getD dl i (pos 0))
 read-code cl dl i code fits e h = h ∙ ap codeOf (toZ-ofZ w32 _ fits ∙ ap (λ (z : List ℤ). getD z i (pos 0)) e)

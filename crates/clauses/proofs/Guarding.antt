@@ -10,29 +10,28 @@ use lib.IntN.{ℤ, pos}
 use lib.ListN.{length, getD, set}
 use borrow.Author.Count.{below-more}
 use Rattle.std.proofs.shelf.Lists.{getD-set-same, getD-set-other, length-set}
-use Rattle.std.proofs.shelf.Tests.{cases-eq, cases-lt}
+use Rattle.std.proofs.shelf.Tests.{cases-eq, cases-lt, false≢true}
 use Rattle.std.specs.declared.option.Option.{Option}
 use Rattle.std.specs.declared.option.Option.the-variants.{Some, None}
 use Rattle.text.specs.Literals.{Clause, variableOf}
-use Rattle.clauses.specs.Propagation.{Held, Values, value, isFalse, satisfied, Settled, Reached, Below, Refuted}
+use Rattle.clauses.specs.Propagation.{Values, value, isFalse, satisfied, Settled, Reached, Below, Refuted}
 use Rattle.clauses.specs.Cells.{valuesOf}
 use Rattle.clauses.specs.Codes.{codeOf, codeAgainst, Against}
 use Rattle.clauses.specs.Linked.{On, AllBelow, Linked}
-use Rattle.clauses.specs.Engine.{Ready}
+use Rattle.clauses.specs.Engine.{Advanced, Ready}
 use Rattle.clauses.specs.Stored.{held, Sound}
-use Rattle.clauses.specs.Events.{clauseAt, Listed, Same, Examined}
-use Rattle.clauses.specs.Watching.{falseAt, AllBut, Found, Pair, TwoOpen, Guards, Grown, Joined, Enlisted, Moved, Renewed, Visited, Went, Waits, Rest, Watch, Paired, Guarded, Watchful}
+use Rattle.clauses.specs.Events.{clauseAt, Listed, Same, Examined, Looked}
+use Rattle.clauses.specs.Watching.{falseAt, AllBut, Pair, Kept, Guards, Grown, Watches, Spotted, Joined, Enlisted, Moved, Renewed, Visited, Waits, Rest, Watch, Paired, Guarded, Watchful}
 use Rattle.clauses.specs.declared.index.Index.{Index}
 use Rattle.clauses.specs.declared.store.Store.{Store}
 use Rattle.clauses.specs.declared.trail.Trail.{Trail}
-use Rattle.clauses.specs.declared.watches.Outcome.{Outcome}
-use Rattle.clauses.specs.declared.watches.Outcome.the-variants.{Conflict, Full, Going}
 use Rattle.clauses.proofs.Theory.{reached-more, reached-none, value-below, settled-refuted}
 use Rattle.clauses.proofs.Hits.{satisfied-below, against-code}
 use Rattle.clauses.proofs.Links.{on-bound, on-set, on-none, on-step, below-push}
 use Rattle.clauses.proofs.Entries.{listed-kept, listed-new, code-bound}
 use Rattle.clauses.proofs.Counts.{late}
 use Rattle.clauses.proofs.OneRow.{row-named, row-short, rows-settled}
+use Rattle.clauses.proofs.Spots.{spots-none, spots-below, spots-more}
 use Rattle.clauses.proofs.Pairs.{one-unset, pair-settled}
 
 -- every literal of a row has a list
@@ -70,12 +69,12 @@ module _ (x y : Index) (code owner : ℕ) (ok : Linked x) (lt : code < x .lists)
             (rw next (on-set (x .next .now) (x .used) (getD (x .heads .now) code 0) link e (ok .falling) le o), rw owners (getD-set-other (x .owners .now) (x .used) e owner 0 ne));
       }
 
-  pub enlisted : (s : Store) (place : ℕ) (w : List ℕ) → Guards s x → Linked y → owner < s .count → code ≡ codeOf (getD (clauseAt s owner) place (pos 0)) → Enlisted s owner place w x y
-  enlisted s place w g linked k is =
+  pub enlisted : (s : Store) (place : ℕ) (w : List ℕ) → Guards s x → Linked y → owner < s .count → code ≡ codeOf (getD (clauseAt s owner) place (pos 0)) → (Watches w owner place → ⊥) → Enlisted s owner place w x y
+  enlisted s place w g linked k is new =
       record {
-        guards = record { linked = linked; heads = rw lists (g .heads); owned = rw (owners, used) (below-push (x .owners .now) (x .used) (s .count) owner ol k (g .owned)) };
+        guards = record { linked = linked; heads = rw lists (g .heads); next = rw (next, length-set (x .next .now) (x .used) (getD (x .heads .now) code 0)) (g .next); owners = rw (owners, length-set (x .owners .now) (x .used) owner) (g .owners); owned = rw (owners, used) (below-push (x .owners .now) (x .used) (s .count) owner ol k (g .owned)) };
         grown = grown-enter;
-        fits = omega arith;
+        uses = inr (used, new);
         joined = inr (inr (subst (λ (z : ℕ). Listed y z owner) is (listed-new x y code owner ok lt nl ol heads next owners)));
       }
 
@@ -168,7 +167,7 @@ joined-listed s x y w xs t low link r p ok g grown lt h (inr (inr l)) = l
 -- one entry on
 pub watchful-more : (s : Store) (x y : Index) (w v : List ℕ) (xs ys : List (Option Bool)) (t u : Trail) (low link r : ℕ) → Sound s → 0 < link → r ≡ getD (x .owners .now) (link - 1) 0 → r < s .count → Visited s r x y w v xs ys t u → Watchful s x w xs t low link → Watchful s y v ys u low (getD (x .next .now) (link - 1) 0)
 watchful-more s x y w v xs ys t u low link r ok some own rc vis h =
-    record { guards = vis .guards; within = omega (arith, falls, vis .grown .more, h .within); ahead = omega (arith, h .ahead, vis .moved .grows); rows = λ k kc. row k kc (cases-eq k r) (h .rows k kc) }
+    record { guards = vis .guards; spots = vis .spots; within = omega (arith, falls, vis .grown .more, h .within); ahead = omega (arith, h .ahead, vis .moved .grows); rows = λ k kc. row k kc (cases-eq k r) (h .rows k kc) }
   where
     falls : getD (x .next .now) (link - 1) 0 ≤ link - 1
     falls = h .guards .linked .falling (link - 1) (omega (arith, h .within))
@@ -193,7 +192,7 @@ watchful-more s x y w v xs ys t u low link r ok some own rc vis h =
 -- the literal at head is taken up: the rows that wait for it are on the list of its opposite
 pub watchful-none : (s : Store) (x : Index) (w : List ℕ) (xs : List (Option Bool)) (t : Trail) (head code : ℕ) → head < t .tail → code < x .lists → code ≡ codeAgainst (getD (t .literals .now) head (pos 0)) → Watchful s x w xs t head 0 → Watchful s x w xs t (head + 1) (getD (x .heads .now) code 0)
 watchful-none s x w xs t head code lt cl is h =
-    record { guards = h .guards; within = h .guards .linked .begins code cl; ahead = omega arith; rows = λ k kc. row k (h .rows k kc) }
+    record { guards = h .guards; spots = h .spots; within = h .guards .linked .begins code cl; ahead = omega arith; rows = λ k kc. row k (h .rows k kc) }
   where
     watch : (k p : ℕ) → Watch s x xs t head 0 k p → Watch s x xs t (head + 1) (getD (x .heads .now) code 0) k p
     watch k p a = record { within = a .within; listed = a .listed; good = go (a .good) }
@@ -242,6 +241,7 @@ pub record Begun (s : Store) (x₀ x : Index) (w : List ℕ) (xs ys : List (Opti
   pub reached : Reached (held s) (valuesOf xs) (valuesOf ys)
   pub ready : Ready s ys u
   pub guards : Guards s x
+  pub spots : Spotted s (x .used) ys w
   pub rows : (j : ℕ) → j < k → Guarded s x w ys u 0 0 j
   pub nowhere : (j : ℕ) → 2 * k ≤ j → j < 2 * s .count → getD w j 0 ≡ 4294967295
   pub same : Same x₀ x
@@ -253,6 +253,7 @@ begun-more s x₀ x y w v xs ys zs t u z k lt b r ready vis room =
       reached = reached-more (held s) (valuesOf xs) (valuesOf ys) (valuesOf zs) (b .reached) r;
       ready = ready;
       guards = vis .guards;
+      spots = vis .spots;
       rows = below-more (λ j. Guarded s y v zs z 0 0 j) k (λ j jk. other-guarded s k x y w v ys zs u z (ready .sound) (b .guards) vis 0 0 0 (omega arith) j (omega arith) (λ e. omega arith) (λ i. absurd (on-none (x .next .now) 0 (i .0) refl (i .1))) (b .rows j jk)) (here-guarded s k x y w v ys zs u z (ready .sound) (b .guards) vis 0 0 0 (omega arith) (inr listed));
       nowhere = λ j le jc. vis .others j (λ e. omega arith) (λ e. omega arith) ∙ b .nowhere j (omega arith) jc;
       same = record { heads = vis .grown .same .heads ∙ b .same .heads; next = vis .grown .same .next ∙ b .same .next; owners = vis .grown .same .owners ∙ b .same .owners };
@@ -273,9 +274,6 @@ nowhere-more w i lt h =
     (λ k ki. let ne : k ≢ i = omega arith in rw (getD-set-other w i k 4294967295 0 ne) (h k ki))
     (getD-set-same w i 4294967295 0 lt)
 
-pub nowhere-all : (w : List ℕ) (n m : ℕ) → n ≡ m → ((k : ℕ) → k < n → getD w k 0 ≡ 4294967295) → (k : ℕ) → k < m → getD w k 0 ≡ 4294967295
-nowhere-all w n m e h k lt = h k (omega arith)
-
 -- the row's two places were written
 places-others : (w : List ℕ) (k p q : ℕ) (j : ℕ) → (j ≡ 2 * k → ⊥) → (j ≡ 2 * k + 1 → ⊥) → getD (set (set w (2 * k) p) (2 * k + 1) q) j 0 ≡ getD w j 0
 places-others w k p q j a b = getD-set-other (set w (2 * k) p) (2 * k + 1) j q 0 b ∙ getD-set-other w (2 * k) j p 0 a
@@ -294,29 +292,73 @@ joined-on s k p w x y ok g lt pl grown (inl e) = inl e
 joined-on s k p w x y ok g lt pl grown (inr (inl e)) = inr (inl e)
 joined-on s k p w x y ok g lt pl grown (inr (inr l)) = inr (inr (grown .listed _ k (code-listed s x k p ok g lt pl) l))
 
--- two places of row k are watched now
-pub visited-pair : (s : Store) (k p q : ℕ) (w : List ℕ) (x y z : Index) (xs : List (Option Bool)) (t : Trail) → Sound s → k < s .count → 2 * k + 1 < length w → Pair xs (clauseAt s k) p q → Enlisted s k p w x y → Enlisted s k q w y z → Visited s k x z w (set (set w (2 * k) p) (2 * k + 1) q) xs xs t t
-visited-pair s k p q w x y z xs t ok lt wide pair one two =
-    record {
-      guards = two .guards;
-      grown = grown-more x y z (one .grown) (two .grown);
-      others = places-others w k p q;
-      moved = moved-none xs t;
-      here = inr (record {
-        pair = rw (places-first w k p q wide, places-second w k p q wide) pair;
-        first = rw (places-first w k p q wide) (joined-on s k p w y z ok (one .guards) lt (pair .first) (two .grown) (one .joined));
-        second = rw (places-second w k p q wide) (two .joined);
-      });
-    }
+-- two places of row k are watched now, one after the other
+module _ (s : Store) (k p q old other : ℕ) (w : List ℕ) (x y z : Index) (xs : List (Option Bool)) (t : Trail) (ok : Sound s) (lt : k < s .count) (wide : 2 * k + 1 < length w) (pair : Pair xs (clauseAt s k) p q) (one : Enlisted s k p w x y) where
+  first-there : getD (set w (2 * k) p) (2 * k) 0 ≡ p
+  first-there = getD-set-same w (2 * k) p 0 (omega arith)
+
+  second-there : getD (set w (2 * k) p) (2 * k + 1) 0 ≡ getD w (2 * k + 1) 0
+  second-there = let ne : 2 * k + 1 ≢ 2 * k = (λ e. omega arith) in getD-set-other w (2 * k) (2 * k + 1) p 0 ne
+
+  pub first-spots : old ≡ getD w (2 * k) 0 → (old < length (clauseAt s k) → falseAt xs (clauseAt s k) old ≡ false → p ≡ old) → Spotted s (x .used) xs w → Spotted s (y .used) xs (set w (2 * k) p)
+  first-spots is keep h = spots-more s k p (x .used) xs w ok lt (pair .first) (pair .firstOpen) h (y .used) (2 * k) _ (one .uses) refl (omega arith) (inl refl) drops
+    where
+      drops : (r : ℕ) → r < length (clauseAt s k) → getD w (2 * k) 0 ≡ r → (falseAt xs (clauseAt s k) r ≡ true) ⊎ Watches (set w (2 * k) p) k r
+      drops r rl e = go (falseAt xs (clauseAt s k) r) refl
+        where
+          same : old ≡ r
+          same = is ∙ e
+
+          go : (b : Bool) → falseAt xs (clauseAt s k) r ≡ b → (falseAt xs (clauseAt s k) r ≡ true) ⊎ Watches (set w (2 * k) p) k r
+          go true i = inl i
+          go false i = inr (inl (first-there ∙ keep (rw same rl) (rw same i) ∙ same))
+
+  pub second-spots : other ≡ getD w (2 * k + 1) 0 → Kept xs (clauseAt s k) other p q → Enlisted s k q (set w (2 * k) p) y z → Spotted s (y .used) xs (set w (2 * k) p) → Spotted s (z .used) xs (set (set w (2 * k) p) (2 * k + 1) q)
+  second-spots is keep two h = spots-more s k q (y .used) xs (set w (2 * k) p) ok lt (pair .second) (pair .secondOpen) h (z .used) (2 * k + 1) _ (two .uses) refl (simp length-set wide) (inr refl) drops
+    where
+      drops : (r : ℕ) → r < length (clauseAt s k) → getD (set w (2 * k) p) (2 * k + 1) 0 ≡ r → (falseAt xs (clauseAt s k) r ≡ true) ⊎ Watches (set (set w (2 * k) p) (2 * k + 1) q) k r
+      drops r rl e = go (falseAt xs (clauseAt s k) r) refl
+        where
+          same : other ≡ r
+          same = is ∙ sym second-there ∙ e
+
+          kept : (p ≡ other) ⊎ (q ≡ other) → Watches (set (set w (2 * k) p) (2 * k + 1) q) k r
+          kept (inl i) = inl (places-first w k p q wide ∙ i ∙ same)
+          kept (inr i) = inr (places-second w k p q wide ∙ i ∙ same)
+
+          go : (b : Bool) → falseAt xs (clauseAt s k) r ≡ b → (falseAt xs (clauseAt s k) r ≡ true) ⊎ Watches (set (set w (2 * k) p) (2 * k + 1) q) k r
+          go true i = inl i
+          go false i = inr (kept (keep (rw same rl) (rw same i)))
+
+  pub visited-pair : Enlisted s k q (set w (2 * k) p) y z → Spotted s (z .used) xs (set (set w (2 * k) p) (2 * k + 1) q) → Visited s k x z w (set (set w (2 * k) p) (2 * k + 1) q) xs xs t t
+  visited-pair two spots =
+      record {
+        guards = two .guards;
+        grown = grown-more x y z (one .grown) (two .grown);
+        others = places-others w k p q;
+        moved = moved-none xs t;
+        spots = spots;
+        here = inr (record {
+          pair = rw (places-first w k p q wide, places-second w k p q wide) pair;
+          first = rw (places-first w k p q wide) (joined-on s k p w y z ok (one .guards) lt (pair .first) (two .grown) (one .joined));
+          second = rw (places-second w k p q wide) (back (two .joined));
+        });
+      }
+    where
+      back : Joined s k q (set w (2 * k) p) z → Joined s k q w z
+      back (inl e) = absurd (pair .apart (sym first-there ∙ e))
+      back (inr (inl e)) = inr (inl (sym second-there ∙ e))
+      back (inr (inr l)) = inr (inr l)
 
 -- a clause with no two places open was looked at
-pub visited-look : (s : Store) (k : ℕ) (w : List ℕ) (x : Index) (xs ys : List (Option Bool)) (t u : Trail) (cl : Clause) → cl ≡ clauseAt s k → Guards s x → ((p : ℕ) × AllBut xs cl p) → Reached (held s) (valuesOf xs) (valuesOf ys) → Examined s k xs ys t u → Visited s k x x w w xs ys t u
-visited-look s k w x xs ys t u cl is g none r e =
+pub visited-look : (s : Store) (k : ℕ) (w : List ℕ) (x : Index) (xs ys : List (Option Bool)) (t u : Trail) (cl : Clause) → cl ≡ clauseAt s k → Guards s x → Spotted s (x .used) xs w → ((p : ℕ) × AllBut xs cl p) → Reached (held s) (valuesOf xs) (valuesOf ys) → Examined s k xs ys t u → Visited s k x x w w xs ys t u
+visited-look s k w x xs ys t u cl is g spots none r e =
     record {
       guards = g;
       grown = grown-none x;
       others = λ j a b. refl;
       moved = moved-look s k xs ys t u r e;
+      spots = spots-below s (x .used) xs ys w (r .below) spots;
       here = inl (look-satisfied xs ys (clauseAt s k) (none .0) (r .below) (subst (λ (c : Clause). AllBut xs c (none .0)) is (none .1)) (e .here));
     }
 
@@ -326,13 +368,22 @@ same-none x = record { heads = refl; next = refl; owners = refl }
 pub same-more : (x y z : Index) → Same x y → Same y z → Same x z
 same-more x y z a b = record { heads = b .heads ∙ a .heads; next = b .next ∙ a .next; owners = b .owners ∙ a .owners }
 
-pub full-going : {X : Type 0} → Full ≡ Going → X
-full-going e = let z : _≡_ {A = ℕ} 0 1 = cc in absurd (omega arith)
-
 pub same-of : (x y : Index) → length (y .heads .now) ≡ length (x .heads .now) → length (y .next .now) ≡ length (x .next .now) → length (y .owners .now) ≡ length (x .owners .now) → Same x y
 same-of x y a b c = record { heads = a; next = b; owners = c }
 
-pub went-more : (live : List Held) (xs ys zs : List (Option Bool)) (o : Outcome) → Reached live (valuesOf xs) (valuesOf ys) → Went live ys zs o → Went live xs zs o
-went-more live xs ys zs Conflict r h = r .back h
-went-more live xs ys zs Full r h = reached-more live (valuesOf xs) (valuesOf ys) (valuesOf zs) r h
-went-more live xs ys zs Going r h = reached-more live (valuesOf xs) (valuesOf ys) (valuesOf zs) r h
+pub visited-examine : (s : Store) (k : ℕ) (w : List ℕ) (x : Index) (xs ys : List (Option Bool)) (t u : Trail) (cl : Clause) (r : Bool) → r ≡ false → cl ≡ clauseAt s k → Guards s x → Spotted s (x .used) xs w → ((p : ℕ) × AllBut xs cl p) → Advanced (held s) xs ys r → Looked s k xs ys t u r → Visited s k x x w w xs ys t u
+visited-examine s k w x xs ys t u cl true q is g spots none goes looked = absurd (false≢true (sym q))
+visited-examine s k w x xs ys t u cl false q is g spots none goes looked = visited-look s k w x xs ys t u cl is g spots none goes looked
+
+pub begun-none : (s : Store) (x : Index) (w : List ℕ) (xs : List (Option Bool)) (t : Trail) → Ready s xs t → Guards s x → x .used ≡ 0 → ((k : ℕ) → k < 2 * s .count → getD w k 0 ≡ 4294967295) → Begun s x x w xs xs t t 0
+begun-none s x w xs t ready g e h =
+    record {
+      reached = reached-none (held s) (valuesOf xs);
+      ready = ready;
+      guards = g;
+      spots = spots-none s (x .used) xs w e;
+      rows = λ j lt. absurd (omega arith);
+      nowhere = λ j le lt. h j lt;
+      same = same-none x;
+      room = refl;
+    }

@@ -19,6 +19,6 @@ pub mod Walks
 pub mod Counts
 pub mod Tellings
 pub mod Commons
-pub mod Sweeping
 pub mod Pairs
+pub mod Spots
 pub mod Guarding

@@ -53,9 +53,6 @@ module _ (s : Store) (k : ℕ) (cl : Clause) (is : cl ≡ span (s .literals .now
       let b : length cl ≤ r .len = rw is (simp length-take (omega arith)) in
       omega (arith, ok .small)
 
-  pub row-named-read : (p : ℕ) → SFits w32 (getD cl p (pos 0)) → p < length cl → variableOf (toZ w32 (ofZ w32 (getD cl p (pos 0)))) - 1 < s .variables
-  row-named-read p fits h = rw (toZ-ofZ w32 _ fits) (row-named p h)
-
   pub row-conflict : (f g : Values) → rowAt (s .rows .now) k .live ≡ true → Reached (held s) f g → Conflict ≡ statusFrom g None cl → Refuted (held s) f
   row-conflict f g live r e = refuted-at (held s) f g _ cl r (at-row live) (means-of g cl Conflict e)
 

@@ -18,5 +18,4 @@ pub mod Counters
 pub mod Common
 pub mod Trying
 pub mod Rooms
-pub mod Passes
 pub mod Watching

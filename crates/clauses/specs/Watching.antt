@@ -1,10 +1,11 @@
 -- What an engine keeps that watches two literals of each clause.
--- falseAt: whether the literal at a place is false; Found, TwoOpen: places whose literals are not
+-- falseAt: whether the literal at a place is false; Found, Picked, TwoOpen: places whose literals are not
 -- Guards: the lists lead to rows, and there is one for each literal; Grown: entries were added
 -- Waits: the trail, at low or later, makes the literal false; Rest: row k is on the list from a link on
 -- Watch, Paired: what a row watches is listed, and is not false unless its turn is to come
 -- Guarded: a row is satisfied, or watches two places; Watchful: each row is guarded
--- Enlisted, Visited: a row is on a list, watches two literals; Went: how far propagation came
+-- Watches: the row watches the place; Spotted: each entry has a place of its own, false or watched
+-- Enlisted, Visited: a row is on a list, watches two literals
 use mathlib.Core.Path.{_≡_}
 use mathlib.Core.Bool.{Bool, true, false}
 use mathlib.Core.List.{List}
@@ -16,8 +17,9 @@ use lib.ListN.{length, getD}
 use Rattle.std.specs.declared.option.Option.{Option}
 use Rattle.std.specs.declared.option.Option.the-variants.{Some, None}
 use Rattle.text.specs.Literals.{Clause}
-use Rattle.clauses.specs.Propagation.{Held, value, isFalse, satisfied, Refuted, Reached, Below}
+use Rattle.clauses.specs.Propagation.{value, isFalse, satisfied, Below}
 use Rattle.clauses.specs.Cells.{valuesOf}
+use Rattle.clauses.specs.Rows.{rowAt}
 use Rattle.clauses.specs.Codes.{codeOf, Against}
 use Rattle.clauses.specs.Linked.{On, AllBelow, Linked}
 use Rattle.clauses.specs.Events.{clauseAt, Listed, Same}
@@ -25,8 +27,6 @@ use Rattle.clauses.specs.Counting.{Gap}
 use Rattle.clauses.specs.declared.index.Index.{Index}
 use Rattle.clauses.specs.declared.store.Store.{Store}
 use Rattle.clauses.specs.declared.trail.Trail.{Trail}
-use Rattle.clauses.specs.declared.watches.Outcome.{Outcome}
-use Rattle.clauses.specs.declared.watches.Outcome.the-variants.{Conflict, Full, Going}
 
 abbrev pub falseAt : List (Option Bool) → Clause → ℕ → Bool
 falseAt xs c p = isFalse (value (valuesOf xs) (getD c p (pos 0)))
@@ -46,13 +46,23 @@ pub record Pair (xs : List (Option Bool)) (c : Clause) (p q : ℕ) : Type 0 wher
   pub firstOpen : falseAt xs c p ≡ false
   pub secondOpen : falseAt xs c q ≡ false
 
-abbrev pub TwoOpen : List (Option Bool) → Clause → Option (ℕ × ℕ) → Type 0
-TwoOpen xs c None = (p : ℕ) × AllBut xs c p
-TwoOpen xs c (Some r) = Pair xs c (r .0) (r .1)
+pub record Picked (xs : List (Option Bool)) (c : Clause) (old avoid : ℕ) (r : Option ℕ) : Type 0 where
+  pub found : Found xs c avoid r
+  pub kept : old < length c → (old ≡ avoid → ⊥) → falseAt xs c old ≡ false → r ≡ Some old
+
+-- an old place is one of the two, unless its literal is false
+abbrev pub Kept : List (Option Bool) → Clause → ℕ → ℕ → ℕ → Type 0
+Kept xs c old p q = old < length c → falseAt xs c old ≡ false → (p ≡ old) ⊎ (q ≡ old)
+
+abbrev pub TwoOpen : List (Option Bool) → Clause → ℕ → ℕ → Option (ℕ × ℕ) → Type 0
+TwoOpen xs c old other None = (p : ℕ) × AllBut xs c p
+TwoOpen xs c old other (Some r) = Pair xs c (r .0) (r .1) × (old < length c → falseAt xs c old ≡ false → r .0 ≡ old) × Kept xs c other (r .0) (r .1)
 
 pub record Guards (s : Store) (x : Index) : Type 0 where
   pub linked : Linked x
   pub heads : 2 * s .variables ≤ x .lists - 2
+  pub next : s .filled ≤ length (x .next .now)
+  pub owners : s .filled ≤ length (x .owners .now)
   pub owned : AllBelow (x .owners .now) (x .used) (s .count)
 
 pub record Grown (x y : Index) : Type 0 where
@@ -62,6 +72,15 @@ pub record Grown (x y : Index) : Type 0 where
   pub listed : (code r : ℕ) → code < x .lists → Listed x code r → Listed y code r
   pub chain : (link e : ℕ) → link ≤ x .used → On (x .next .now) link e → On (y .next .now) link e × (getD (y .owners .now) e 0 ≡ getD (x .owners .now) e 0)
 
+abbrev pub Watches : List ℕ → ℕ → ℕ → Type 0
+Watches w k p = (getD w (2 * k) 0 ≡ p) ⊎ (getD w (2 * k + 1) 0 ≡ p)
+
+pub record Spotted (s : Store) (used : ℕ) (xs : List (Option Bool)) (w : List ℕ) : Type 0 where
+  pub spot : ℕ → ℕ
+  pub inside : (e : ℕ) → e < used → spot e < s .filled
+  pub apart : (d e : ℕ) → d < e → e < used → spot d ≡ spot e → ⊥
+  pub stale : (k p e : ℕ) → k < s .count → p < length (clauseAt s k) → e < used → spot e ≡ rowAt (s .rows .now) k .start + p → (falseAt xs (clauseAt s k) p ≡ true) ⊎ Watches w k p
+
 -- the place was watched, or the row is on its literal's list now
 abbrev pub Joined : Store → ℕ → ℕ → List ℕ → Index → Type 0
 Joined s k place w y = (getD w (2 * k) 0 ≡ place) ⊎ ((getD w (2 * k + 1) 0 ≡ place) ⊎ Listed y (codeOf (getD (clauseAt s k) place (pos 0))) k)
@@ -69,7 +88,7 @@ Joined s k place w y = (getD w (2 * k) 0 ≡ place) ⊎ ((getD w (2 * k + 1) 0 �
 pub record Enlisted (s : Store) (k place : ℕ) (w : List ℕ) (x y : Index) : Type 0 where
   pub guards : Guards s y
   pub grown : Grown x y
-  pub fits : y .used ≤ x .used + 1
+  pub uses : ((y .used ≡ x .used) × Watches w k place) ⊎ ((y .used ≡ x .used + 1) × (Watches w k place → ⊥))
   pub joined : Joined s k place w y
 
 -- values were set, and the trail has them
@@ -89,12 +108,8 @@ pub record Visited (s : Store) (k : ℕ) (x y : Index) (w v : List ℕ) (xs ys :
   pub grown : Grown x y
   pub others : (j : ℕ) → (j ≡ 2 * k → ⊥) → (j ≡ 2 * k + 1 → ⊥) → getD v j 0 ≡ getD w j 0
   pub moved : Moved xs ys t u
+  pub spots : Spotted s (y .used) ys v
   pub here : T (satisfied (valuesOf ys) (clauseAt s k)) ⊎ Renewed s k w v y ys
-
-abbrev pub Went : List Held → List (Option Bool) → List (Option Bool) → Outcome → Type 0
-Went live xs ys Conflict = Refuted live (valuesOf xs)
-Went live xs ys Full = Reached live (valuesOf xs) (valuesOf ys)
-Went live xs ys Going = Reached live (valuesOf xs) (valuesOf ys)
 
 abbrev pub Waits : Trail → ℕ → ℤ → Type 0
 Waits t low m = (q : ℕ) × (low ≤ q) × (q < t .tail) × Against (getD (t .literals .now) q (pos 0)) m
@@ -117,6 +132,7 @@ Guarded s x w xs t low link k = T (satisfied (valuesOf xs) (clauseAt s k)) ⊎ P
 
 pub record Watchful (s : Store) (x : Index) (w : List ℕ) (xs : List (Option Bool)) (t : Trail) (low link : ℕ) : Type 0 where
   pub guards : Guards s x
+  pub spots : Spotted s (x .used) xs w
   pub within : link ≤ x .used
   pub ahead : low ≤ t .tail
   pub rows : (k : ℕ) → k < s .count → Guarded s x w xs t low link k

@@ -11,7 +11,6 @@ mod literal;
 mod look;
 pub mod mark;
 mod phase;
-mod plain;
 pub mod room;
 pub mod row;
 mod scan;

@@ -32,6 +32,8 @@ pub struct Watched<'a> {
     ghost lasting: { length (common .values .cells .now) ≤ length (common .trail .literals .now) },
     ghost few: { length (common .store .rows .now) < 2 ^ 32 },
     ghost small: { length (common .store .literals .now) < 2 ^ 32 },
+    ghost nexts: { length (common .store .literals .now) ≤ length (index .next .now) },
+    ghost owners: { length (common .store .literals .now) ≤ length (index .owners .now) },
     ghost heads: { 2 * length (common .values .cells .now) ≤ length (index .heads .now) },
     ghost pairs: { 2 * length (common .store .rows .now) ≤ length (places .at .now) },
 }

@@ -30,6 +30,8 @@ fn propagate(
     requires ready { ⌜ Ready (now store) (now values .cells .now) (now trail) ⌝ }
     requires places { ⌜ 2 * now store .count ≤ length (now places .at .now) ⌝ }
     requires heads { ⌜ 2 * now store .variables ≤ length (now index .heads .now) - 2 ⌝ }
+    requires next { ⌜ now store .filled ≤ length (now index .next .now) ⌝ }
+    requires owners { ⌜ now store .filled ≤ length (now index .owners .now) ⌝ }
     ensures decides { λ r. ⌜ Decides r (Refuted (held (now (store .entry))) (valuesOf (now (values .entry) .cells .now))) ⌝ }
     ensures cells { λ _. ⌜ length (now (values .exit) .cells .now) ≡ length (now (values .entry) .cells .now) ⌝ }
     ensures trail { λ _. ⌜ length (now (trail .exit) .literals .now) ≡ length (now (trail .entry) .literals .now) ⌝ }
@@ -42,6 +44,8 @@ fn propagate(
 /// Closes the gaps and propagates. The trial is then answered.
 pub(super) fn answer(common: &mut Common, index: &mut Index, places: &mut Places) -> bool
     requires sane { ⌜ Sane (now common) ⌝ }
+    requires next { ⌜ length (now common .store .literals .now) ≤ length (now index .next .now) ⌝ }
+    requires owners { ⌜ length (now common .store .literals .now) ≤ length (now index .owners .now) ⌝ }
     requires heads { ⌜ 2 * length (now common .values .cells .now) ≤ length (now index .heads .now) ⌝ }
     requires places { ⌜ 2 * length (now common .store .rows .now) ≤ length (now places .at .now) ⌝ }
     ensures decides { λ r. ⌜ Decides r (Refuted (held (now (common .entry) .store)) (valuesOf (now (common .entry) .values .cells .now))) ⌝ }

@@ -12,4 +12,6 @@ propagate-requires c κs =
       ready = record { sound = e .sound; dense = e .dense; enough = rw (e .kept .variables) (ok .placed); room = omega (arith, unset-most (c .args .common .now .values .cells .now), ok .lasting); named = named-none (c .args .common .now .trail .literals .now) (c .close .last .self .variables) };
       places = omega (arith, e .sound .counted, e .kept .rows, c .pre .places);
       heads = omega (arith, e .kept .variables, ok .placed, c .pre .heads);
+      next = omega (arith, e .sound .within, e .kept .literals, c .pre .next);
+      owners = omega (arith, e .sound .within, e .kept .literals, c .pre .owners);
     }
