@@ -1,2 +1,15 @@
+pub mod Asking
+pub mod Better
+pub mod Complete
+pub mod Concluding
+pub mod Counter
+pub mod Hinting
+pub mod Laid
+pub mod Law
+pub mod Laying
 pub mod Meaning
+pub mod Ranges
+pub mod Rising
+pub mod Runs
+pub mod Rup
 pub mod Written

@@ -1,3 +1,9 @@
+pub mod Calls
+pub mod Law
 pub mod Lines
+pub mod Numbers
+pub mod Opened
+pub mod Opening
 pub mod Refusal
+pub mod Session
 pub mod Verdicts

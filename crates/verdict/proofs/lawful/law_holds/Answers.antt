@@ -1,0 +1,5 @@
+use Rattle.verdict.proofs.Law.{law}
+use Rattle.verdict.proofs.lawful.law_holds.Needs as need
+
+pub returns : need.returns
+returns c = law
