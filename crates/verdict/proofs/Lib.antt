@@ -12,4 +12,5 @@ pub mod Ranges
 pub mod Rising
 pub mod Runs
 pub mod Rup
+pub mod Witness
 pub mod Written

@@ -7,3 +7,4 @@ pub mod Opening
 pub mod Refusal
 pub mod Session
 pub mod Verdicts
+pub mod WorkedSession
