@@ -8,6 +8,7 @@ pub mod Laid
 pub mod Law
 pub mod Laying
 pub mod Meaning
+pub mod Onward
 pub mod Ranges
 pub mod Rising
 pub mod Runs

@@ -2,6 +2,7 @@ pub mod Calls
 pub mod Law
 pub mod Lines
 pub mod Numbers
+pub mod Onward
 pub mod Opened
 pub mod Opening
 pub mod Refusal

@@ -1,9 +1,11 @@
 //! The states of a session. None can be made but by an opening, nor kept: each call that ends one takes it.
 ghost use mathlib.Core.Bool.{false};
 ghost use mathlib.Core.Path.{_≡_};
-ghost use lib.ListN.{length};
+ghost use lib.IntN.{pos};
+ghost use lib.ListN.{length, replicate};
 ghost use Rattle.certificate.specs.Reading.{memoryOf, Leaves};
 ghost use Rattle.verdict.specs.Calls.{LeavesAfter};
+ghost use Rattle.verdict.specs.Onward.{Onward};
 ghost use Rattle.verdict.specs.Opened.{deskOf, Closes, verdictFor};
 ghost use Rattle.verdict.specs.Session.{Run, Asked};
 use crate::outcome::Verdict;
@@ -127,4 +129,44 @@ pub fn ask_all<B: ClauseBase, S: Source>(
     for r in replies.iter_mut() {
         *r = session.ask(base, source, literals, hints);
     }
+}
+
+/// Asks step after step, as long as they are accepted and none adds the empty clause.
+fn ask_each<B: ClauseBase, S: Source>(
+    session: &mut Open,
+    base: &mut B,
+    source: &mut S,
+    literals: &mut [i32],
+    hints: &mut [u32],
+) -> Reply
+    ensures onward { λ r. ⌜ Onward (memoryOf (now (literals .entry)) (now (hints .entry))) (deskOf (now (session .entry)) (meaning (now (base .entry))) (rest (now (source .entry)))) r (deskOf (now (session .exit)) (meaning (now (base .exit))) (rest (now (source .exit)))) ⌝ }
+    ensures claim { λ _. ⌜ now (session .exit) .claim ≡ now (session .entry) .claim ⌝ }
+{
+    while !session.emptied {
+        match session.ask(base, source, literals, hints) {
+            Reply::Taken => {}
+            Reply::Refused(f, p) => return Reply::Refused(f, p),
+            Reply::Nothing => return Reply::Nothing,
+        }
+    }
+    Reply::Taken
+}
+
+/// Asks step after step, until one is refused, none is left, or the empty clause is there. The memory is then all zero.
+pub fn ask_on<B: ClauseBase, S: Source>(
+    session: &mut Open,
+    base: &mut B,
+    source: &mut S,
+    literals: &mut [i32],
+    hints: &mut [u32],
+) -> Reply
+    ensures onward { λ r. ⌜ Onward (memoryOf (now (literals .entry)) (now (hints .entry))) (deskOf (now (session .entry)) (meaning (now (base .entry))) (rest (now (source .entry)))) r (deskOf (now (session .exit)) (meaning (now (base .exit))) (rest (now (source .exit)))) ⌝ }
+    ensures claim { λ _. ⌜ now (session .exit) .claim ≡ now (session .entry) .claim ⌝ }
+    ensures literals { λ _. ⌜ now (literals .exit) ≡ replicate (length (now (literals .entry))) (pos 0) ⌝ }
+    ensures hints { λ _. ⌜ now (hints .exit) ≡ replicate (length (now (hints .entry))) 0 ⌝ }
+{
+    let reply = ask_each(session, base, source, literals, hints);
+    literals.fill(0);
+    hints.fill(0);
+    reply
 }
