@@ -76,7 +76,7 @@ shown-not-dead live (add c None) z d = d
 shown-not-dead live (add c (Some ns)) z d = not-dead live (denied c) ns z d
 shown-not-dead live (delete n) z d = T-not (isLive live n) d z
 
-not-refused : (k : Memory) (m : Meaning) (s : Step) (f : StepFault) → Refused k m s f → m .trial ≡ idle → Fine k m s → ⊥
+pub not-refused : (k : Memory) (m : Meaning) (s : Step) (f : StepFault) → Refused k m s f → m .trial ≡ idle → Fine k m s → ⊥
 not-refused k m s TooMany x i g = T-not (inMemory k s) x (g .0)
 not-refused k m s InTrial x i g = x .1 i
 not-refused k m s Malformed x i g = T-not (formed m s) (x .2) (g .1)
@@ -118,7 +118,7 @@ judged-going k d d' p ps (Turned f at) n j i (inl e) = subst (λ y. Idle y × Go
 judged-going k d d' p ps (Turned f at) n j i (inr g) = absurd (not-refused k (d .base) (p .step) f (j .0) i (g .0 .0))
 judged-going k d d' p ps Nothing n j i g = absurd j
 
-asked-going : (k : Memory) (d d' : Desk) (ps : List Placed) (e : Ending) (r : Reply) (n : ℕ) → AskedOf k d ps e r d' → Idle d →
+pub asked-going : (k : Memory) (d d' : Desk) (ps : List Placed) (e : Ending) (r : Reply) (n : ℕ) → AskedOf k d ps e r d' → Idle d →
     T (d .emptied) ⊎ (Good k (d .base) ps × (upToEmpty ps ≤ suc n)) → Idle d' × Going k n d'
 asked-going k d d' (p ∷ ps) e r n x i g = judged-going k d d' p ps r n x i g
 asked-going k d d' [] (broken p) r n x i (inl e) = subst (λ y. Idle y × Going k n y) (sym (x .1)) (i, inl e)

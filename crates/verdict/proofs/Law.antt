@@ -30,7 +30,7 @@ is-true : (q : Problem) (a : Answer) → IsPlanOrFail q a → ((A : Chosen) → 
 is-true q fail p none = λ s h. none s (each-from-every (makesTrue s) (planClauses q) (plans-agree .clauses q s .1 h))
 is-true q (set s) p none = (p, refl, refl, unbeaten q (removedCount q s) (changedCount q s) (removed-bound q s) (changed-bound q s) none)
 
-stays-idle : (m : Meaning) (cs : List Clause) → m .trial ≡ idle → (addedAll m cs) .trial ≡ idle
+pub stays-idle : (m : Meaning) (cs : List Clause) → m .trial ≡ idle → (addedAll m cs) .trial ≡ idle
 stays-idle m [] e = e
 stays-idle m (c ∷ cs) e = stays-idle (withAdded m c) cs e
 

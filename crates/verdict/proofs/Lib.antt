@@ -9,6 +9,7 @@ pub mod Law
 pub mod Laying
 pub mod Meaning
 pub mod Onward
+pub mod OnwardLaw
 pub mod Ranges
 pub mod Rising
 pub mod Runs
