@@ -27,15 +27,15 @@ use Rattle.verdict.specs.Opened.{deskOf, planFault, claimOf, verdictFor, Opens
 use Rattle.problem.proofs.Agreement.{plans-agree}
 use Rattle.verdict.proofs.Law.{law}
 
-is-plan : (q : Problem) (a : Answer) → planFault q a ≡ None → IsPlanOrFail q a
+pub is-plan : (q : Problem) (a : Answer) → planFault q a ≡ None → IsPlanOrFail q a
 is-plan q fail e = tt
 is-plan q (set s) e = plans-agree .none q s .0 e
 
-no-fault : (q : Problem) (a : Answer) → IsPlanOrFail q a → planFault q a ≡ None
+pub no-fault : (q : Problem) (a : Answer) → IsPlanOrFail q a → planFault q a ≡ None
 no-fault q fail p = refl
 no-fault q (set s) p = plans-agree .none q s .1 p
 
-same-verdict : (q : Problem) (a : Answer) → verdictFor (claimOf q a) ≡ verdictOf q a
+pub same-verdict : (q : Problem) (a : Answer) → verdictFor (claimOf q a) ≡ verdictOf q a
 same-verdict q fail = refl
 same-verdict q (set s) = refl
 
@@ -60,7 +60,7 @@ module _ (q : Problem) (a : Answer) (k : Memory) (m m′ : Meaning) (s s′ : St
   verdict-true (Ok v) c = subst (Means q a) (sym (c .1 .7)) (law .sound q a m s k rs′ (c .0) (is-plan q a (c .1 .1)) (c .1 .3) (c .1 .6))
   verdict-true (Err f) c = tt
 
-  not-opened : (f : OpenFault) → Opens m q a (Err f) m′ → m .trial ≡ idle → IsPlanOrFail q a → T (openingFits m q a) → ⊥
+  pub not-opened : (f : OpenFault) → Opens m q a (Err f) m′ → m .trial ≡ idle → IsPlanOrFail q a → T (openingFits m q a) → ⊥
   not-opened InTrial o i p t = o .0 i
   not-opened (NotPlan n) o i p t = subst there (sym (no-fault q a p) ∙ o .1) tt
     where

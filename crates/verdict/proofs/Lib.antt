@@ -3,6 +3,7 @@ pub mod Better
 pub mod Complete
 pub mod Concluding
 pub mod Counter
+pub mod Finding
 pub mod Hinting
 pub mod Laid
 pub mod Law

@@ -27,7 +27,7 @@ a-run (suc n) k d r d' x =
     let w = a-run n k (x .0) r d' (x .1 .2) in
     (Taken ∷ w .0, (x .0, (x .1 .1, w .1)))
 
-ends-emptied : (n : ℕ) (k : Memory) (d : Desk) (d' : Desk) → OnAfter n k d Taken d' → T (d' .emptied)
+pub ends-emptied : (n : ℕ) (k : Memory) (d : Desk) (d' : Desk) → OnAfter n k d Taken d' → T (d' .emptied)
 ends-emptied zero k d d' x = pick (d .emptied) refl x
   where
     pick : (b : Bool) → d .emptied ≡ b → cond b ((Taken ≡ Taken) × (d' ≡ d)) (Stops Taken × Asked k d Taken d') → T (d' .emptied)

@@ -1,4 +1,5 @@
 pub mod Calls
+pub mod Finding
 pub mod Law
 pub mod Lines
 pub mod Numbers

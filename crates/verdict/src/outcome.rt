@@ -1,6 +1,9 @@
 //! What a session comes to.
 ghost use mathlib.Core.Path.{_≡_};
 ghost use Rattle.verdict.specs.Numbers.{openNumber, sessionNumber};
+use crate::reply::StepFault;
+use crate::reply::StepFaultDebug;
+use crate::reply::StepFaultPartialEq;
 
 #[derive(Clone, Copy, PartialEq, Eq, Debug)]
 pub enum Verdict {
@@ -23,6 +26,16 @@ pub enum OpenFault {
 #[derive(Clone, Copy, PartialEq, Eq, Debug)]
 pub enum SessionFault {
     Opening(OpenFault),
+    /// With the place after the last step that was accepted.
+    Unclosed(u64),
+}
+
+/// Why a run up to the first refusal gives no verdict.
+#[derive(Clone, Copy, PartialEq, Eq, Debug)]
+pub enum RunFault {
+    Opening(OpenFault),
+    /// With the place of the step.
+    Step(StepFault, u32),
     /// With the place after the last step that was accepted.
     Unclosed(u64),
 }

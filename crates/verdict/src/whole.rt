@@ -3,15 +3,18 @@ ghost use mathlib.Core.Path.{_≡_};
 ghost use lib.ListN.{length};
 ghost use Rattle.certificate.specs.Reading.{memoryOf};
 ghost use Rattle.clauses.specs.ClauseBase.{idle};
+ghost use Rattle.verdict.specs.Finding.{Ends, Finds, FoundTrue, Found};
 ghost use Rattle.verdict.specs.Opened.{HoldsEach, Lays, Opens, OpeningLeaves, Concludes, RunLeaves, TrueVerdict, Complete};
 ghost use Rattle.verdict.specs.Session.{openingVariables, openingClauses};
 use crate::case::Case;
 use crate::outcome::OpenFault;
+use crate::outcome::RunFault;
 use crate::outcome::SessionFault;
 use crate::outcome::Verdict;
 use crate::reply::Reply;
 use crate::session::Open;
 use crate::session::ask_all;
+use crate::session::ask_on;
 use certificate::source::Source;
 use clauses::base::ClauseBase;
 use clauses::fault::BaseFault;
@@ -82,4 +85,38 @@ pub fn run_session<B: ClauseBase, C: Case, S: Source>(
         Ok(refuted) => Ok(refuted.verdict()),
         Err(still) => Err(SessionFault::Unclosed(still.place)),
     }
+}
+
+/// What a session comes to after its last reply.
+fn end(session: Open, reply: Reply) -> Result<Verdict, RunFault>
+    ensures { λ r. ⌜ Ends session reply r ⌝ }
+{
+    if let Reply::Refused(f, p) = reply {
+        return Err(RunFault::Step(f, p));
+    }
+    match session.close() {
+        Ok(refuted) => Ok(refuted.verdict()),
+        Err(still) => Err(RunFault::Unclosed(still.place)),
+    }
+}
+
+/// Opens a session, asks steps up to the first refusal or the empty clause, and gives its verdict.
+pub fn conclude<B: ClauseBase, C: Case, S: Source>(
+    base: &mut B,
+    case: &C,
+    source: &mut S,
+    literals: &mut [i32],
+    hints: &mut [u32],
+) -> Result<Verdict, RunFault>
+    requires { ⌜ HoldsEach (length (now literals)) (openingClauses (problem (now case)) (answer (now case))) ⌝ }
+    ensures run { λ r. ⌜ Finds (problem (now (case .entry))) (answer (now (case .entry))) (memoryOf (now (literals .entry)) (now (hints .entry))) (meaning (now (base .entry))) (rest (now (source .entry))) r (meaning (now (base .exit))) (rest (now (source .exit))) ⌝ }
+    ensures sound { λ r. ⌜ FoundTrue (problem (now (case .entry))) (answer (now (case .entry))) r ⌝ }
+    ensures complete { λ r. ⌜ Found (problem (now (case .entry))) (answer (now (case .entry))) (memoryOf (now (literals .entry)) (now (hints .entry))) (meaning (now (base .entry))) (rest (now (source .entry))) r ⌝ }
+{
+    let mut session = match open(base, case, literals) {
+        Ok(session) => session,
+        Err(f) => return Err(RunFault::Opening(f)),
+    };
+    let reply = ask_on(&mut session, base, source, literals, hints);
+    end(session, reply)
 }
