@@ -4,13 +4,15 @@ use mathlib.Core.Bool.{Bool, true, false, cond, not}
 use mathlib.Core.List.{List, [], _∷_}
 use Prim.Native.Nat.{ℕ, zero, suc}
 use lib.Dec.{T}
+use lib.IntN.{ℤ, pos}
+use lib.ListN.{length, replicate}
 use Rattle.std.specs.declared.result.Result.{Result}
 use Rattle.std.specs.declared.result.Result.the-variants.{Ok, Err}
 use Rattle.problem.specs.Cudf.{Problem}
 use Rattle.clauses.specs.ClauseBase.{Meaning}
 use Rattle.certificate.specs.Reading.{Memory}
 use Rattle.certificate.specs.Stream.{Placed, Ending, finished, broken, Stream}
-use Rattle.verdict.specs.Finding.{Asked as WasAsked, Closed, Ends, Finds, FoundTrue, Found}
+use Rattle.verdict.specs.Finding.{Asked as WasAsked, Closed, Ends, Finds, FindLeaves, FoundTrue, Found}
 use Rattle.verdict.specs.Law.{Means, verdictOf}
 use Rattle.verdict.specs.Onward.{Stops, OnAfter, Onward}
 use Rattle.verdict.specs.Opened.{deskOf, Opens, verdictFor, claimOf}
@@ -83,3 +85,19 @@ module _ (q : Problem) (a : Answer) (k : Memory) (m m′ : Meaning) (s s′ : St
   found (Err (Step e n)) f i p t good = absurd (subst Stops (onward-law .complete q a m s k (Refused e n) (f .0) good (f .1 .onward)) tt)
   found (Err (Unclosed n)) f i p t good = absurd (subst Stops (onward-law .complete q a m s k Nothing (f .0) good (f .1 .0 .onward)) tt)
   found (Err (Opening e)) f i p t good = absurd (not-opened q a k m m′ s s [] [] e (f .0) i p t)
+
+module _ (ls ls₁ ls′ : List ℤ) (hs hs′ : List ℕ) (kept : length ls₁ ≡ length ls) (zero-literals : ls′ ≡ replicate (length ls₁) (pos 0)) (zero-hints : hs′ ≡ replicate (length hs) 0) where
+  zeros : (ls′ ≡ replicate (length ls) (pos 0)) × (hs′ ≡ replicate (length hs) 0)
+  zeros = (zero-literals ∙ ap (λ n. replicate n (pos 0)) kept, zero-hints)
+
+  closed-leaves : (o : Open) (v : Result Verdict RunFault) → Closed o v → FindLeaves ls hs v ls′ hs′
+  closed-leaves o v e = pick (o .emptied) e
+    where
+      pick : (b : Bool) → cond b (v ≡ Ok (verdictFor (o .claim))) (v ≡ Err (Unclosed (suc (o .last)))) → FindLeaves ls hs v ls′ hs′
+      pick true e = subst (λ y. FindLeaves ls hs y ls′ hs′) (sym e) zeros
+      pick false e = subst (λ y. FindLeaves ls hs y ls′ hs′) (sym e) zeros
+
+  pub find-leaves : (o : Open) (r : Reply) (v : Result Verdict RunFault) → Ends o r v → FindLeaves ls hs v ls′ hs′
+  find-leaves o (Refused f p) v e = subst (λ y. FindLeaves ls hs y ls′ hs′) (sym e) zeros
+  find-leaves o Taken v e = closed-leaves o v e
+  find-leaves o Nothing v e = closed-leaves o v e

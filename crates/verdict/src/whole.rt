@@ -3,7 +3,7 @@ ghost use mathlib.Core.Path.{_≡_};
 ghost use lib.ListN.{length};
 ghost use Rattle.certificate.specs.Reading.{memoryOf};
 ghost use Rattle.clauses.specs.ClauseBase.{idle};
-ghost use Rattle.verdict.specs.Finding.{Ends, Finds, FoundTrue, Found};
+ghost use Rattle.verdict.specs.Finding.{Ends, Finds, FindLeaves, FoundTrue, Found};
 ghost use Rattle.verdict.specs.Opened.{HoldsEach, Lays, Opens, OpeningLeaves, Concludes, RunLeaves, TrueVerdict, Complete};
 ghost use Rattle.verdict.specs.Session.{openingVariables, openingClauses};
 use crate::case::Case;
@@ -109,6 +109,7 @@ pub fn conclude<B: ClauseBase, C: Case, S: Source>(
     hints: &mut [u32],
 ) -> Result<Verdict, RunFault>
     requires { ⌜ HoldsEach (length (now literals)) (openingClauses (problem (now case)) (answer (now case))) ⌝ }
+    ensures memory { λ r. ⌜ FindLeaves (now (literals .entry)) (now (hints .entry)) r (now (literals .exit)) (now (hints .exit)) ⌝ }
     ensures run { λ r. ⌜ Finds (problem (now (case .entry))) (answer (now (case .entry))) (memoryOf (now (literals .entry)) (now (hints .entry))) (meaning (now (base .entry))) (rest (now (source .entry))) r (meaning (now (base .exit))) (rest (now (source .exit))) ⌝ }
     ensures sound { λ r. ⌜ FoundTrue (problem (now (case .entry))) (answer (now (case .entry))) r ⌝ }
     ensures complete { λ r. ⌜ Found (problem (now (case .entry))) (answer (now (case .entry))) (memoryOf (now (literals .entry)) (now (hints .entry))) (meaning (now (base .entry))) (rest (now (source .entry))) r ⌝ }
