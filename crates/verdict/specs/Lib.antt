@@ -1,3 +1,12 @@
+pub mod Calls
+pub mod Finding
+pub mod Law
 pub mod Lines
+pub mod Numbers
+pub mod Onward
+pub mod Opened
+pub mod Opening
 pub mod Refusal
+pub mod Session
 pub mod Verdicts
+pub mod WorkedSession
