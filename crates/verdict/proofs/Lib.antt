@@ -1,2 +1,4 @@
+pub mod Counting
 pub mod Meaning
+pub mod Ranges
 pub mod Written

@@ -1,3 +1,4 @@
 pub mod Lines
+pub mod Opening
 pub mod Refusal
 pub mod Verdicts
