@@ -2,5 +2,8 @@
 pub mod check;
 mod counter;
 pub mod fault;
+mod indicators;
 pub mod line;
+mod names;
+pub mod opening_clauses;
 mod variable;
