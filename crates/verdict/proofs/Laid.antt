@@ -10,7 +10,7 @@ use Rattle.text.specs.Lists.{upFrom}
 use Rattle.text.specs.Literals.{Clause, neg}
 use Rattle.problem.specs.Cudf.{Problem, names, installedNames}
 use Rattle.verdict.specs.Opening.{register, counter, variables, choice}
-use Rattle.verdict.specs.OpeningCalls.{Places, secondBase, atMost}
+use Rattle.verdict.specs.OpeningCalls.{Places, secondBase, atMost, fewer}
 use Rattle.verdict.specs.declared.opening_clauses.Layout.{Layout}
 
 pub product-few : (a b : ℕ) → a ≤ 256 → b ≤ 257 → a * b ≤ 65792
@@ -36,3 +36,7 @@ second-is l r c x e =
     let z : r + 1 ≡ suc r = omega arith in
     let y : l .choice + 1 ≡ suc (l .choice) = omega arith in
     ap (λ w. counter w c 1 (upFrom (l .changed) (l .names))) (ap (λ w. w + x) y ∙ ap (λ w. suc (l .choice) + w) (e ∙ ap (λ w. l .installed * w) z))
+
+-- the two bounds as they are written
+pub fewer-is : (z z′ : ℤ) (a a′ : ℕ) (k : ℕ) → z ≡ z′ → a ≡ a′ → fewer z a k ∷ [] ≡ fewer z′ a′ k ∷ []
+fewer-is z z′ a a′ k e f = ap (λ x. fewer x a k ∷ []) e ∙ ap (λ x. fewer z′ x k ∷ []) f

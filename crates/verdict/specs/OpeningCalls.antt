@@ -3,11 +3,11 @@
 -- secondBase: where the registers of the second counter begin; countersOf: the clauses of both
 use mathlib.Core.Path.{_≡_}
 use mathlib.Core.List.{List, [], _∷_, _++_}
-use Prim.Native.Nat.{ℕ, zero, suc, _+_, _*_, _≤_}
+use Prim.Native.Nat.{ℕ, zero, suc, _+_, _-_, _*_, _≤_}
 use lib.ListN.{length}
 use lib.IntN.{ℤ}
 use Rattle.text.specs.Lists.{upFrom}
-use Rattle.text.specs.Literals.{Clause, neg}
+use Rattle.text.specs.Literals.{Clause, lit, neg}
 use Rattle.problem.specs.Cudf.{Problem, names, installedNames}
 use Rattle.verdict.specs.Opening.{register, counter}
 use Rattle.verdict.specs.declared.opening_clauses.Layout.{Layout}
@@ -46,3 +46,9 @@ atMost base K (suc n) = (neg (register base K (suc n) K) ∷ []) ∷ []
 abbrev pub fewer : ℤ → ℕ → ℕ → Clause
 fewer z row zero = z ∷ []
 fewer z row (suc k) = z ∷ neg (row + k) ∷ []
+
+-- boundsOf: the clauses that a better plan would have to meet, by a layout
+abbrev pub boundsOf : Layout → ℕ → ℕ → List Clause
+boundsOf l r c =
+    atMost (l .choice + 1) (r + 1) (l .installed)
+    ++ fewer (neg (l .choice)) (l .choice + 1 + (l .installed - 1) * (r + 1)) r ∷ fewer (lit (l .choice)) (l .choice + 1 + l .installed * (r + 1) + (l .names - 1) * c) c ∷ []

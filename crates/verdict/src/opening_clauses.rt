@@ -3,18 +3,20 @@ ghost use mathlib.Core.Path.{_≡_};
 ghost use mathlib.Core.List.{[], _∷_, _++_};
 ghost use Prim.Native.Nat.{suc, min, _+_, _*_, _<_, _≤_};
 ghost use lib.ListN.{length};
-ghost use Rattle.text.specs.Rows.{room};
 ghost use Rattle.problem.specs.Feeding.{Fed};
 ghost use Rattle.problem.specs.Meaning.{problemOf};
 ghost use Rattle.problem.specs.Cudf.{names, installedNames};
-ghost use Rattle.verdict.specs.Opening.{register, variables};
-ghost use Rattle.verdict.specs.OpeningCalls.{Places, Small, secondBase, countersOf, atMost, fewer};
+ghost use Rattle.verdict.specs.Opening.{variables, removedClauses, changedClauses};
+ghost use Rattle.verdict.specs.OpeningCalls.{Places, Small, secondBase, countersOf, atMost, fewer, boundsOf};
 use crate::counter::feed_counter;
+use crate::indicators::feed_indicators;
 use crate::names::Indicator;
 use crate::names::count_listed;
 use crate::variable::no;
+use crate::variable::yes;
 use problem::sink::ClauseSink;
 use problem::view::Problem;
+use text::rows::Rows;
 
 /// Where the kinds of variables begin: after the stanzas stand the removed variables, the changed ones, and the choice.
 #[derive(Clone, Copy)]
@@ -104,4 +106,46 @@ fn feed_fewer<S: ClauseSink>(literal: i32, row: u32, count: u32, sink: &mut S) -
         return sink.take(&[literal]);
     }
     sink.take(&[literal, no(row + (count - 1))])
+}
+
+/// The clauses of the removed and of the changed variables.
+fn feed_names<S: ClauseSink>(
+    problem: &Problem<'_, '_, '_>,
+    removed: u32,
+    changed: u32,
+    sink: &mut S,
+) -> bool
+    requires removed { ⌜ removed ≤ 10000 ⌝ }
+    requires changed { ⌜ changed ≤ 10000 ⌝ }
+    ensures { λ r. ⌜ Fed goes stops (removedClauses (problemOf (now (problem .entry))) 0 0 removed (installedNames (problemOf (now (problem .entry)))) ++ changedClauses (problemOf (now (problem .entry))) 0 0 changed (names (problemOf (now (problem .entry))))) r (now (sink .entry)) (now (sink .exit)) ⌝ }
+{
+    let mut memory = [0; 257];
+    let mut clause = Rows::new(&mut memory, 0);
+    let text = problem.text();
+    let packages = problem.packages();
+    if !feed_indicators(text, packages, Indicator::Removed, removed, &mut clause, sink) {
+        return false;
+    }
+    feed_indicators(text, packages, Indicator::Changed, changed, &mut clause, sink)
+}
+
+/// That fewer names are removed, or as many and fewer changed.
+fn feed_bounds<S: ClauseSink>(places: Layout, removed: u32, changed: u32, sink: &mut S) -> bool
+    requires small { ⌜ Small places ⌝ }
+    requires removed { ⌜ removed ≤ 256 ⌝ }
+    requires changed { ⌜ changed ≤ 256 ⌝ }
+    ensures { λ r. ⌜ Fed goes stops (boundsOf places removed changed) r (now (sink .entry)) (now (sink .exit)) ⌝ }
+{
+    let first = places.choice + 1;
+    let limit = removed + 1;
+    let second = first + registers(places.installed, limit);
+    let row = first + registers(places.installed.saturating_sub(1), limit);
+    let last = second + registers(places.names.saturating_sub(1), changed);
+    if !feed_at_most(first, limit, places.installed, sink) {
+        return false;
+    }
+    if !feed_fewer(no(places.choice), row, removed, sink) {
+        return false;
+    }
+    feed_fewer(yes(places.choice), last, changed, sink)
 }
