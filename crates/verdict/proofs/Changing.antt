@@ -56,7 +56,7 @@ module _ {S : Type 0} (goes stops : S → Clause → S → Type 0) (k : Indicato
     names-more n w m d e x f y =
         let z : suc v ≡ w = omega arith in
         let g = left-more goes stops whole _ (ofNames k text ps (suc v) (listedFrom k text ps (i + 1))) start s m
-            (subst (λ ns. Left goes stops whole start (ofNames k text ps v ns) s) (listed-more k text ps i l e ∙ ap (λ a. a ∷ listedFrom k text ps (i + 1)) (sym d)) left) f in
+        (subst (λ ns. Left goes stops whole start (ofNames k text ps v ns) s) (listed-more k text ps i l e ∙ ap (λ a. a ∷ listedFrom k text ps (i + 1)) (sym d)) left) f in
         subst (λ u. Left goes stops whole start (ofNames k text ps w (listedFrom k text ps (i + 1))) u) (sym y) (subst (λ u. Left goes stops whole start (ofNames k text ps u (listedFrom k text ps (i + 1))) m) z g)
 
     pub names-same : (w : ℕ) → false ≡ listedAt k text ps i → w ≡ v → t ≡ s → Left goes stops whole start (ofNames k text ps w (listedFrom k text ps (i + 1))) t

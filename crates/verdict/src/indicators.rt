@@ -70,12 +70,7 @@ fn write_variable(clause: &mut Rows<'_, i32>, variable: u32)
 }
 
 /// Puts the versions of a name at the end of a clause.
-fn write_versions(
-    text: &[u8],
-    packages: &[PackageRow],
-    name: &[u8],
-    clause: &mut Rows<'_, i32>,
-)
+fn write_versions(text: &[u8], packages: &[PackageRow], name: &[u8], clause: &mut Rows<'_, i32>)
     requires few { ⌜ length (now packages) ≤ 256 ⌝ }
     requires fits { ⌜ length (items (now clause)) + length (now packages) ≤ room (now clause) ⌝ }
     ensures items { λ _. ⌜ items (now (clause .exit)) ≡ items (now (clause .entry)) ++ each lit (passing (λ p. sameBytes (now (name .entry)) (wordIn (now (text .entry)) (p .name))) 0 (now (packages .entry))) ⌝ }

@@ -6,7 +6,7 @@ ghost use lib.ListN.{length};
 ghost use Rattle.problem.specs.Feeding.{Fed};
 ghost use Rattle.problem.specs.Meaning.{problemOf};
 ghost use Rattle.problem.specs.Cudf.{names, installedNames};
-ghost use Rattle.verdict.specs.Opening.{variables, removedClauses, changedClauses};
+ghost use Rattle.verdict.specs.Opening.{variables, removedClauses, changedClauses, opening};
 ghost use Rattle.verdict.specs.OpeningCalls.{Places, Small, secondBase, countersOf, atMost, fewer, boundsOf};
 use crate::counter::feed_counter;
 use crate::indicators::feed_indicators;
@@ -14,6 +14,7 @@ use crate::names::Indicator;
 use crate::names::count_listed;
 use crate::variable::no;
 use crate::variable::yes;
+use problem::plan_clauses::feed_plan_clauses;
 use problem::sink::ClauseSink;
 use problem::view::Problem;
 use text::rows::Rows;
@@ -123,10 +124,24 @@ fn feed_names<S: ClauseSink>(
     let mut clause = Rows::new(&mut memory, 0);
     let text = problem.text();
     let packages = problem.packages();
-    if !feed_indicators(text, packages, Indicator::Removed, removed, &mut clause, sink) {
+    if !feed_indicators(
+        text,
+        packages,
+        Indicator::Removed,
+        removed,
+        &mut clause,
+        sink,
+    ) {
         return false;
     }
-    feed_indicators(text, packages, Indicator::Changed, changed, &mut clause, sink)
+    feed_indicators(
+        text,
+        packages,
+        Indicator::Changed,
+        changed,
+        &mut clause,
+        sink,
+    )
 }
 
 /// That fewer names are removed, or as many and fewer changed.
@@ -148,4 +163,29 @@ fn feed_bounds<S: ClauseSink>(places: Layout, removed: u32, changed: u32, sink: 
         return false;
     }
     feed_fewer(yes(places.choice), last, changed, sink)
+}
+
+/// Hands the clauses of the opening to a sink as long as it takes them, and says whether it took them all. Counts above
+/// 256 are taken as 256.
+pub fn feed_opening<S: ClauseSink>(
+    problem: &Problem<'_, '_, '_>,
+    removed: u32,
+    changed: u32,
+    sink: &mut S,
+) -> bool
+    ensures { λ r. ⌜ Fed goes stops (opening (problemOf (now (problem .entry))) (min removed 256) (min changed 256)) r (now (sink .entry)) (now (sink .exit)) ⌝ }
+{
+    let places = lay_out(problem);
+    let most = removed.min(256);
+    let more = changed.min(256);
+    if !feed_plan_clauses(problem, sink) {
+        return false;
+    }
+    if !feed_names(problem, places.removed, places.changed, sink) {
+        return false;
+    }
+    if !feed_counters(places, most, more, sink) {
+        return false;
+    }
+    feed_bounds(places, most, more, sink)
 }
