@@ -2,7 +2,7 @@ pub mod Changing
 pub mod Counting
 pub mod Listed
 pub mod Meaning
-pub mod Ranges
+pub mod VariableRanges
 pub mod Written
 pub mod Worded
-pub mod Laid
+pub mod OpeningParts

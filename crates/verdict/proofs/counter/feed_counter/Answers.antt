@@ -2,7 +2,7 @@ use mathlib.Core.Path.{_≡_}
 use Prim.Native.Nat.{_+_}
 use native.Mathlib.Omega.{arith}
 use Rattle.verdict.proofs.Counting.{row-fits, inputs-left}
-use Rattle.verdict.proofs.Ranges.{range-fed, range-left}
+use Rattle.verdict.proofs.VariableRanges.{range-fed, range-left}
 use Rattle.verdict.proofs.counter.feed_counter.Needs as need
 
 pub loop-place-holds : need.loop-place-holds

@@ -4,7 +4,7 @@ use mir.Syntax.{w32}
 use mir.Val.{SFits}
 use Rattle.std.proofs.shelf.Signed.{toZ-ofZ}
 use Rattle.verdict.proofs.Counting.{raised-clause}
-use Rattle.verdict.proofs.Ranges.{range-took, range-stopped, range-took-all}
+use Rattle.verdict.proofs.VariableRanges.{range-took, range-stopped, range-took-all}
 use Rattle.verdict.proofs.counter.feed_raised.Needs as need
 
 pub returns-then-not-take : need.returns-then-not-take

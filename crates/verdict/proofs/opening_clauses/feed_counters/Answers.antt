@@ -1,6 +1,6 @@
 use native.Mathlib.Omega.{arith}
 use Rattle.problem.proofs.Feeds.{fed-on-as, fed-stop-as}
-use Rattle.verdict.proofs.Laid.{product-few, first-is, second-is}
+use Rattle.verdict.proofs.OpeningParts.{product-few, first-is, second-is}
 use Rattle.verdict.proofs.opening_clauses.feed_counters.Needs as need
 
 pub returns-then-not-feed-counter : need.returns-then-not-feed-counter

@@ -1,5 +1,5 @@
 use Rattle.problem.proofs.Feeds.{fed-on, fed-stop, fed-as}
-use Rattle.verdict.proofs.Laid.{opened}
+use Rattle.verdict.proofs.OpeningParts.{opened}
 use Rattle.verdict.proofs.opening_clauses.feed_opening.Needs as need
 
 pub returns-then-not-feed-plan-clauses : need.returns-then-not-feed-plan-clauses

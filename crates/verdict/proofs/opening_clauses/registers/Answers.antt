@@ -1,5 +1,5 @@
 use mathlib.Core.Path.{refl}
-use Rattle.verdict.proofs.Laid.{product-few}
+use Rattle.verdict.proofs.OpeningParts.{product-few}
 use Rattle.verdict.proofs.opening_clauses.registers.Needs as need
 
 pub returns : need.returns
