@@ -37,7 +37,7 @@ pub impl Word for i32 as Signed {
 }
 
 /// Puts literals first in the memory, and zeros after them.
-pub fn put_literals(bytes: &[u8], memory: &mut [i32])
+pub(crate) fn put_literals(bytes: &[u8], memory: &mut [i32])
     requires { ⌜ length (words (now bytes)) ≤ length (now memory) ⌝ }
     ensures { λ _. ⌜ now (memory .exit) ≡ standing (pos 0) (length (now (memory .entry))) (each (toZ w32) (words (now (bytes .entry)))) ⌝ }
 {
@@ -46,7 +46,7 @@ pub fn put_literals(bytes: &[u8], memory: &mut [i32])
 }
 
 /// Puts hints first in the memory, and zeros after them.
-pub fn put_hints(bytes: &[u8], memory: &mut [u32])
+pub(crate) fn put_hints(bytes: &[u8], memory: &mut [u32])
     requires { ⌜ length (words (now bytes)) ≤ length (now memory) ⌝ }
     ensures { λ _. ⌜ now (memory .exit) ≡ standing 0 (length (now (memory .entry))) (words (now (bytes .entry))) ⌝ }
 {

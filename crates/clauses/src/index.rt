@@ -17,7 +17,7 @@ pub struct Index<'a> {
 
 impl Index<'_> {
     /// So many lists, with no entry.
-    pub fn clear(&mut self, lists: usize)
+    pub(crate) fn clear(&mut self, lists: usize)
         requires { ⌜ lists ≤ length (now self .heads .now) ⌝ }
         ensures linked { λ _. ⌜ Linked (now (self .exit)) ⌝ }
         ensures used { λ _. ⌜ now (self .exit) .used ≡ 0 ⌝ }
@@ -34,7 +34,7 @@ impl Index<'_> {
     }
 
     /// A new entry at the front of the list of the literal with this code.
-    pub fn enter(&mut self, code: usize, owner: u32)
+    pub(crate) fn enter(&mut self, code: usize, owner: u32)
         requires linked { ⌜ Linked (now self) ⌝ }
         requires code { ⌜ code < now self .lists ⌝ }
         requires next { ⌜ now self .used < length (now self .next .now) ⌝ }

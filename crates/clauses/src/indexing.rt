@@ -24,7 +24,7 @@ fn index_row(store: &Store, k: usize, index: &mut Index)
 }
 
 /// Puts every row on the lists of its literals.
-pub fn index_all(store: &Store, index: &mut Index)
+pub(crate) fn index_all(store: &Store, index: &mut Index)
     requires sound { ⌜ Sound (now store) ⌝ }
     requires few { ⌜ now store .count < 2 ^ 32 ⌝ }
     requires next { ⌜ now store .filled ≤ length (now index .next .now) ⌝ }

@@ -35,7 +35,7 @@ pub fn code_against(literal: i32) -> usize
 }
 
 /// What a literal is worth.
-pub fn read(values: &[Option<bool>], literal: i32) -> Option<bool>
+pub(crate) fn read(values: &[Option<bool>], literal: i32) -> Option<bool>
     requires { ⌜ variableOf literal < length (now values) ⌝ }
     ensures { λ r. ⌜ r ≡ value (valuesOf (now (values .entry))) literal ⌝ }
 {
@@ -50,7 +50,7 @@ pub fn read(values: &[Option<bool>], literal: i32) -> Option<bool>
 }
 
 /// Whether a literal is not false.
-pub fn is_open(values: &[Option<bool>], literal: i32) -> bool
+pub(crate) fn is_open(values: &[Option<bool>], literal: i32) -> bool
     requires { ⌜ variableOf literal < length (now values) ⌝ }
     ensures { λ r. ⌜ r ≡ not (isFalse (value (valuesOf (now (values .entry))) literal)) ⌝ }
 {
@@ -61,7 +61,7 @@ pub fn is_open(values: &[Option<bool>], literal: i32) -> bool
 }
 
 /// Makes the literal true.
-pub fn assign(values: &mut [Option<bool>], literal: i32)
+pub(crate) fn assign(values: &mut [Option<bool>], literal: i32)
     requires { ⌜ variableOf literal < length (now values) ⌝ }
     ensures { λ _. ⌜ now (values .exit) ≡ set (now (values .entry)) (variableOf literal) (Some (positive literal)) ⌝ }
 {
@@ -69,7 +69,7 @@ pub fn assign(values: &mut [Option<bool>], literal: i32)
 }
 
 /// Makes the literal false.
-pub fn deny(values: &mut [Option<bool>], literal: i32)
+pub(crate) fn deny(values: &mut [Option<bool>], literal: i32)
     requires { ⌜ variableOf literal < length (now values) ⌝ }
     ensures { λ _. ⌜ now (values .exit) ≡ set (now (values .entry)) (variableOf literal) (Some (not (positive literal))) ⌝ }
 {

@@ -12,7 +12,12 @@ use crate::store::Store;
 use crate::trail::Trail;
 
 /// Sets the literal that the clause in row k forces, if any. Says whether the clause is in conflict.
-pub fn examine(store: &Store, k: usize, values: &mut [Option<bool>], trail: &mut Trail) -> bool
+pub(crate) fn examine(
+    store: &Store,
+    k: usize,
+    values: &mut [Option<bool>],
+    trail: &mut Trail,
+) -> bool
     requires k { ⌜ k < now store .count ⌝ }
     requires ready { ⌜ Ready (now store) (now values) (now trail) ⌝ }
     ensures goes { λ r. ⌜ Advanced (held (now (store .entry))) (now (values .entry)) (now (values .exit)) r ⌝ }

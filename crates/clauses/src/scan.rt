@@ -17,7 +17,7 @@ pub enum Status {
 }
 
 /// A scan of the clause, as far as a literal is true or a second one unset.
-pub fn status_of(clause: &[i32], values: &[Option<bool>]) -> Status
+pub(crate) fn status_of(clause: &[i32], values: &[Option<bool>]) -> Status
     requires { ⌜ Placed (now clause) (length (now values)) ⌝ }
     ensures { λ r. ⌜ r ≡ statusFrom (valuesOf (now (values .entry))) None (now (clause .entry)) ⌝ }
 {

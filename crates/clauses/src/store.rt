@@ -22,7 +22,7 @@ pub struct Store<'a> {
 
 impl Store<'_> {
     /// The literals of the clause in row k.
-    pub fn clause(&self, k: usize) -> &[i32]
+    pub(crate) fn clause(&self, k: usize) -> &[i32]
         requires k { ⌜ k < now self .count ⌝ }
         requires sound { ⌜ Sound (now self) ⌝ }
         ensures { λ r. ⌜ now r ≡ span (now (self .entry) .literals .now) (rowAt (now (self .entry) .rows .now) k) ⌝ }

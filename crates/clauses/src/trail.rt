@@ -11,7 +11,7 @@ pub struct Trail<'a> {
 }
 
 impl Trail<'_> {
-    pub fn push(&mut self, literal: i32)
+    pub(crate) fn push(&mut self, literal: i32)
         requires { ⌜ now self .tail < length (now self .literals .now) ⌝ }
         ensures tail { λ _. ⌜ now (self .exit) .tail ≡ now (self .entry) .tail + 1 ⌝ }
         ensures literals { λ _. ⌜ now (self .exit) .literals .now ≡ set (now (self .entry) .literals .now) (now (self .entry) .tail) literal ⌝ }

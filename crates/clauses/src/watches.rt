@@ -217,7 +217,7 @@ fn drain(
 }
 
 /// Whether unit propagation from these values comes to a conflict.
-pub fn run(
+pub(crate) fn run(
     store: &Store,
     values: &mut [Option<bool>],
     places: &mut [u32],

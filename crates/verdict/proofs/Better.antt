@@ -17,7 +17,7 @@ use Rattle.verdict.specs.Opening.{register, counter, firstRemoved, inputs, all
 use Rattle.verdict.specs.Law.{Unbeaten}
 use Rattle.text.proofs.Members.{each-weaker, each-append, each-each, each-from-every, or-cases, or-left, or-right, and-left, and-both, some-left, some-right}
 use Rattle.verdict.proofs.Rup.{True}
-use Rattle.verdict.proofs.Counter.{back, two-true, each-upFrom, Registers, counter-true}
+use Rattle.verdict.proofs.Counters.{back, two-true, each-upFrom, Registers, counter-true}
 use Rattle.verdict.proofs.Laid.{laid, laid-1, laid-2, laid-3, laid-4, laid-5, laid-6, tally, tally-at, register-at, Reads, reads-from, reads-count, length-upFrom, take-all, howMany-le, howMany-keep}
 use Rattle.problem.proofs.Agreement.{plans-agree}
 use Rattle.verdict.proofs.Ranges.{Between, versions-between, plan-within, all-same-true}

@@ -19,7 +19,7 @@ use Rattle.verdict.specs.Opening.{register, counterInput, counter, firstRemove
 use Rattle.clauses.specs.ClauseBase.{wellFormed}
 use Rattle.verdict.specs.Session.{Answer, fail, set, openingVariables, openingClauses}
 use Rattle.text.proofs.Members.{and-both, each-since, each-weaker, each-append, each-each, each-eachAll}
-use Rattle.verdict.proofs.Counter.{each-upFrom}
+use Rattle.verdict.proofs.Counters.{each-upFrom}
 use Rattle.verdict.proofs.Laid.{register-at, length-upFrom}
 use Rattle.verdict.proofs.Ranges.{Between, stanzas-between, versions-between}
 use Rattle.verdict.proofs.Better.{removed-bound, changed-bound}

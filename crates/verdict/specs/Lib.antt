@@ -1,11 +1,13 @@
 pub mod Calls
 pub mod Finding
+pub mod Indicators
 pub mod Law
 pub mod Lines
 pub mod Numbers
 pub mod Onward
 pub mod Opened
 pub mod Opening
+pub mod OpeningCalls
 pub mod Refusal
 pub mod Session
 pub mod Verdicts

@@ -1,18 +1,19 @@
--- The variables and clauses that a session opens on, for a plan with counts r and c.
--- register: a register of a counter; counterInput, counter: the clauses of one input, and of all of them
--- firstRemoved, firstChanged, choice, firstS, firstT: where each kind of variable begins, after the stanzas
--- inputs, allNames: how many names are installed at the start, and how many there are; variables: how many variables
--- removedClauses, changedClauses: a name with none of its stanzas is removed, one with a stanza that differs is changed
--- atMostR, fewerR, fewerC: at most r removed; fewer than r, or fewer than c changed
--- opening: all clauses, the plan clauses first
+-- The variables and clauses that a session opens on.
+-- register: the register (i, j) of a counter, i and j from 1
+-- counterInput, counter: the clauses of a sequential counter: of one input, by its negative literal, and of all
+-- firstRemoved, firstChanged, choice, firstS, firstT: where the removed and changed variables, the choice and the registers of the two counters begin
+-- inputs, allNames: how many names were installed at the start, and how many there are
+-- removedClauses, changedClauses: what makes a removed or a changed variable true
+-- atMostR, fewerR, fewerC: at most r names are removed; fewer than r, or fewer than c are changed
+-- opening, variables: all clauses on a plan that removes r names and changes c, and how many variables they have
 use mathlib.Core.Bool.{cond}
 use mathlib.Core.List.{List, [], _∷_, _++_}
 use Prim.Native.Nat.{ℕ, zero, suc, _+_, _-_, _*_}
 use lib.ListN.{length}
-use lib.IntN.{ℤ, pos}
+use lib.IntN.{ℤ}
 use Rattle.text.specs.Lists.{upFrom, each}
-use Rattle.problem.specs.Cudf.{Problem, names, installedNames, versionsOf}
 use Rattle.text.specs.Literals.{Clause, lit, neg}
+use Rattle.problem.specs.Cudf.{Problem, names, installedNames, versionsOf}
 use Rattle.problem.specs.PlanClauses.{planClauses}
 
 -- register (i, j), i and j from 1, of a counter with limit K whose first register is variable base
@@ -23,11 +24,11 @@ register base K i j = base + (i - 1) * K + (j - 1)
 abbrev pub counterInput : ℕ → ℕ → ℤ → ℕ → List Clause
 counterInput base zero notX i = []
 counterInput base (suc k) notX zero = []
-counterInput base (suc k) notX (suc zero) = (notX ∷ pos (register base (suc k) 1 1) ∷ []) ∷ []
+counterInput base (suc k) notX (suc zero) = (notX ∷ lit (register base (suc k) 1 1) ∷ []) ∷ []
 counterInput base (suc k) notX (suc (suc i)) =
-    ((notX ∷ pos (register base (suc k) (suc (suc i)) 1) ∷ []) ∷ [])
-    ++ each (λ j. neg (register base (suc k) (suc i) j) ∷ pos (register base (suc k) (suc (suc i)) j) ∷ []) (upFrom 1 (suc k))
-    ++ each (λ j. notX ∷ neg (register base (suc k) (suc i) j) ∷ pos (register base (suc k) (suc (suc i)) (suc j)) ∷ []) (upFrom 1 k)
+    ((notX ∷ lit (register base (suc k) (suc (suc i)) 1) ∷ []) ∷ [])
+    ++ each (λ j. neg (register base (suc k) (suc i) j) ∷ lit (register base (suc k) (suc (suc i)) j) ∷ []) (upFrom 1 (suc k))
+    ++ each (λ j. notX ∷ neg (register base (suc k) (suc i) j) ∷ lit (register base (suc k) (suc (suc i)) (suc j)) ∷ []) (upFrom 1 k)
 
 abbrev pub counter : ℕ → ℕ → ℕ → List ℕ → List Clause
 counter base K i [] = []

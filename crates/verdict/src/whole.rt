@@ -37,7 +37,7 @@ fn lay<B: ClauseBase, C: Case>(
 }
 
 /// Opens a session; a refused opening leaves the base cleared, or as it was during a trial.
-pub fn open<B: ClauseBase, C: Case>(
+pub(crate) fn open<B: ClauseBase, C: Case>(
     base: &mut B,
     case: &C,
     literals: &mut [i32],
@@ -62,7 +62,7 @@ pub fn open<B: ClauseBase, C: Case>(
 }
 
 /// Opens a session, asks as many steps as there is place for replies, closes it and gives its verdict.
-pub fn run_session<B: ClauseBase, C: Case, S: Source>(
+pub(crate) fn run_session<B: ClauseBase, C: Case, S: Source>(
     base: &mut B,
     case: &C,
     source: &mut S,
@@ -101,7 +101,7 @@ fn end(session: Open, reply: Reply) -> Result<Verdict, RunFault>
 }
 
 /// Opens a session, asks steps up to the first refusal or the empty clause, and gives its verdict.
-pub fn conclude<B: ClauseBase, C: Case, S: Source>(
+pub(crate) fn conclude<B: ClauseBase, C: Case, S: Source>(
     base: &mut B,
     case: &C,
     source: &mut S,

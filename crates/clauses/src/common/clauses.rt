@@ -25,7 +25,7 @@ impl Common<'_> {
         }
     }
 
-    pub fn clear(&mut self, variables: u32) -> Result<(), BaseFault>
+    pub(crate) fn clear(&mut self, variables: u32) -> Result<(), BaseFault>
         requires { ⌜ Sane (now self) ⌝ }
         ensures call { λ r. ⌜ Clears (meaningOf (now (self .entry))) variables r (meaningOf (now (self .exit))) ⌝ }
         ensures sane { λ _. ⌜ Sane (now (self .exit)) ⌝ }
@@ -41,7 +41,7 @@ impl Common<'_> {
         Ok(())
     }
 
-    pub fn add(&mut self, clause: &[i32]) -> Result<u32, BaseFault>
+    pub(crate) fn add(&mut self, clause: &[i32]) -> Result<u32, BaseFault>
         requires { ⌜ Sane (now self) ⌝ }
         ensures call { λ r. ⌜ Adds (meaningOf (now (self .entry))) (now (clause .entry)) r (meaningOf (now (self .exit))) ⌝ }
         ensures sane { λ _. ⌜ Sane (now (self .exit)) ⌝ }
@@ -64,7 +64,7 @@ impl Common<'_> {
         Ok(number)
     }
 
-    pub fn delete(&mut self, number: u32) -> Result<(), BaseFault>
+    pub(crate) fn delete(&mut self, number: u32) -> Result<(), BaseFault>
         requires { ⌜ Sane (now self) ⌝ }
         ensures call { λ r. ⌜ Deletes (meaningOf (now (self .entry))) number r (meaningOf (now (self .exit))) ⌝ }
         ensures sane { λ _. ⌜ Sane (now (self .exit)) ⌝ }

@@ -86,7 +86,7 @@ impl Common<'_> {
         }
     }
 
-    pub fn start(&mut self, clause: &[i32]) -> Result<Mark, BaseFault>
+    pub(crate) fn start(&mut self, clause: &[i32]) -> Result<Mark, BaseFault>
         requires { ⌜ Sane (now self) ⌝ }
         ensures call { λ r. ⌜ Starts (meaningOf (now (self .entry))) (now (clause .entry)) r (meaningOf (now (self .exit))) ⌝ }
         ensures sane { λ _. ⌜ Sane (now (self .exit)) ⌝ }
@@ -103,7 +103,7 @@ impl Common<'_> {
         Ok(Mark { seal: () })
     }
 
-    pub fn hint(&mut self, number: u32) -> Result<Hinted, BaseFault>
+    pub(crate) fn hint(&mut self, number: u32) -> Result<Hinted, BaseFault>
         requires { ⌜ Sane (now self) ⌝ }
         ensures call { λ r. ⌜ Hints (meaningOf (now (self .entry))) number r (meaningOf (now (self .exit))) ⌝ }
         ensures sane { λ _. ⌜ Sane (now (self .exit)) ⌝ }
@@ -125,7 +125,7 @@ impl Common<'_> {
         }
     }
 
-    pub fn finish(&mut self, mark: Mark)
+    pub(crate) fn finish(&mut self, mark: Mark)
         requires { ⌜ Sane (now self) ⌝ }
         ensures call { λ _. ⌜ Finishes (meaningOf (now (self .entry))) (meaningOf (now (self .exit))) ⌝ }
         ensures sane { λ _. ⌜ Sane (now (self .exit)) ⌝ }
@@ -135,7 +135,7 @@ impl Common<'_> {
         self.phase = Phase::Idle;
     }
 
-    pub fn is_live(&self, number: u32) -> bool
+    pub(crate) fn is_live(&self, number: u32) -> bool
         requires { ⌜ Sane (now self) ⌝ }
         ensures { λ r. ⌜ r ≡ isLive (meaningOf (now (self .entry)) .live) number ⌝ }
     {

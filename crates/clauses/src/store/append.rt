@@ -37,7 +37,7 @@ impl Store<'_> {
     }
 
     /// Adds a clause under the next number.
-    pub fn push(&mut self, clause: &[i32])
+    pub(crate) fn push(&mut self, clause: &[i32])
         requires sound { ⌜ Sound (now self) ⌝ }
         requires row { ⌜ now self .count < length (now self .rows .now) ⌝ }
         requires literals { ⌜ now self .filled + length (now clause) ≤ length (now self .literals .now) ⌝ }

@@ -24,7 +24,7 @@ impl Store<'_> {
     }
 
     /// Closes the gaps: each row is live, and its literals follow those of the row before.
-    pub fn close(&mut self)
+    pub(crate) fn close(&mut self)
         requires { ⌜ Sound (now self) ⌝ }
         ensures { λ _. ⌜ Closed (now (self .entry)) (now (self .exit)) ⌝ }
     {
@@ -41,7 +41,7 @@ impl Store<'_> {
     }
 
     /// Whether one more clause of so many literals has room. Gaps are closed only where they are needed.
-    pub fn make_room(&mut self, len: usize) -> bool
+    pub(crate) fn make_room(&mut self, len: usize) -> bool
         requires { ⌜ Sound (now self) ⌝ }
         ensures { λ r. ⌜ Spacious (now (self .entry)) (now (self .exit)) len r ⌝ }
     {

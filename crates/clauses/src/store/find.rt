@@ -28,7 +28,7 @@ impl Store<'_> {
     }
 
     /// The row of the live clause with this number.
-    pub fn find(&self, number: u32) -> Option<usize>
+    pub(crate) fn find(&self, number: u32) -> Option<usize>
         requires { ⌜ Sound (now self) ⌝ }
         ensures { λ r. ⌜ Found (now (self .entry)) number r ⌝ }
     {
@@ -45,7 +45,7 @@ impl Store<'_> {
     }
 
     /// Takes the clause in row k out. Its row holds its place until the gaps are closed.
-    pub fn take_out(&mut self, k: usize)
+    pub(crate) fn take_out(&mut self, k: usize)
         requires k { ⌜ k < now self .count ⌝ }
         requires sound { ⌜ Sound (now self) ⌝ }
         ensures { λ _. ⌜ TakenOut (now (self .entry)) (now (self .exit)) k ⌝ }
