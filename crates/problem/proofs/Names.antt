@@ -40,14 +40,14 @@ module _ (text : List ℕ) (set : List Standing) (m : Mark) (n : List ℕ) (ps :
   version-none l = ap (someVersion text set m n i) (drop-all i ps l)
 
 -- names that are seen alike
-names-alike : (text : List ℕ) (a b : List (List ℕ)) → ((m : List ℕ) → seenIn m a ≡ seenIn m b) → (ps : List PackageRow) → rowNames text a ps ≡ rowNames text b ps
+pub names-alike : (text : List ℕ) (a b : List (List ℕ)) → ((m : List ℕ) → seenIn m a ≡ seenIn m b) → (ps : List PackageRow) → rowNames text a ps ≡ rowNames text b ps
 names-alike text a b h [] = refl
 names-alike text a b h (p ∷ ps) =
     let n = wordIn text (p .name) in
     ap (λ y. cond y (rowNames text a ps) (n ∷ rowNames text (n ∷ a) ps)) (h n) ∙ ap (λ y. cond (seenIn n b) y (n ∷ rowNames text (n ∷ a) ps)) (names-alike text a b h ps)
     ∙ ap (λ y. cond (seenIn n b) (rowNames text b ps) (n ∷ y)) (names-alike text (n ∷ a) (n ∷ b) (λ m. ap (λ y. sameBytes m n || y) (h m)) ps)
 
-seen-pushed : (m n : List ℕ) (a : List (List ℕ)) → seenIn m (a ++ n ∷ []) ≡ (sameBytes m n || seenIn m a)
+pub seen-pushed : (m n : List ℕ) (a : List (List ℕ)) → seenIn m (a ++ n ∷ []) ≡ (sameBytes m n || seenIn m a)
 seen-pushed m n [] = refl
 seen-pushed m n (x ∷ a) = ap (λ y. sameBytes m x || y) (seen-pushed m n a) ∙ turned (sameBytes m x) (sameBytes m n) (seenIn m a)
   where
@@ -57,7 +57,7 @@ seen-pushed m n (x ∷ a) = ap (λ y. sameBytes m x || y) (seen-pushed m n a) �
     turned false y z = refl
 
 -- a name that was seen, seen once more
-seen-again : (m n : List ℕ) (a : List (List ℕ)) → seenIn n a ≡ true → seenIn m (a ++ n ∷ []) ≡ seenIn m a
+pub seen-again : (m n : List ℕ) (a : List (List ℕ)) → seenIn n a ≡ true → seenIn m (a ++ n ∷ []) ≡ seenIn m a
 seen-again m n a h = seen-pushed m n a ∙ pick (sameBytes m n) refl
   where
     pick : (b : Bool) → sameBytes m n ≡ b → (b || seenIn m a) ≡ seenIn m a
@@ -104,7 +104,7 @@ pub names-none : (text : List ℕ) (t : List ℕ → Bool) (ps : List PackageRow
 names-none text t ps i m = ap (λ xs. howMany t (rowNames text (each (λ p. wordIn text (p .name)) (take i ps)) xs)) (drop-all i ps m)
 
 -- in words
-names-are : (text : List ℕ) (cs : List ConstraintRow) (seen : List (List ℕ)) (ps : List PackageRow) → rowNames text seen ps ≡ namesFrom seen (each (packageOf text cs) ps)
+pub names-are : (text : List ℕ) (cs : List ConstraintRow) (seen : List (List ℕ)) (ps : List PackageRow) → rowNames text seen ps ≡ namesFrom seen (each (packageOf text cs) ps)
 names-are text cs seen [] = refl
 names-are text cs seen (p ∷ ps) =
     let n = wordIn text (p .name) in

@@ -14,7 +14,7 @@ pub enum Standing {
 
 impl Standing {
     /// What is said of a stanza that is named.
-    pub fn of(installed: bool) -> Standing
+    pub(crate) fn of(installed: bool) -> Standing
         ensures { λ r. ⌜ r ≡ standing installed ⌝ }
     {
         if installed {
@@ -25,7 +25,7 @@ impl Standing {
     }
 
     /// Whether the stanza is not named.
-    pub fn is_unnamed(self) -> bool
+    pub(crate) fn is_unnamed(self) -> bool
         ensures { λ r. ⌜ r ≡ isUnnamed self ⌝ }
     {
         match self {

@@ -9,6 +9,7 @@ use Rattle.std.proofs.shelf.Equals.{sameBytes-decides}
 use Rattle.std.proofs.shelf.Lists.{drop-more, drop-all, map-more}
 use Rattle.text.specs.Lists.{each, keep, some}
 use Rattle.text.specs.Word.{wordIn}
+use Rattle.problem.proofs.Names.{names-alike, seen-pushed, seen-again}
 use Rattle.problem.specs.Cudf.{seenIn}
 use Rattle.problem.specs.Naming.{rowNames}
 use Rattle.problem.specs.Rows.{noPackage}
@@ -16,29 +17,6 @@ use Rattle.problem.specs.declared.rows.PackageRow.{PackageRow}
 use Rattle.verdict.specs.Indicators.{hasVersion, listed, listedAt, listedFrom}
 use Rattle.verdict.specs.declared.names.Indicator.{Indicator}
 use Rattle.verdict.specs.declared.names.Indicator.the-variants.{Removed, Changed}
-
-names-alike : (text : List ℕ) (a b : List (List ℕ)) → ((m : List ℕ) → seenIn m a ≡ seenIn m b) → (ps : List PackageRow) → rowNames text a ps ≡ rowNames text b ps
-names-alike text a b h [] = refl
-names-alike text a b h (p ∷ ps) =
-    let n = wordIn text (p .name) in
-    ap (λ y. cond y (rowNames text a ps) (n ∷ rowNames text (n ∷ a) ps)) (h n) ∙ ap (λ y. cond (seenIn n b) y (n ∷ rowNames text (n ∷ a) ps)) (names-alike text a b h ps)
-    ∙ ap (λ y. cond (seenIn n b) (rowNames text b ps) (n ∷ y)) (names-alike text (n ∷ a) (n ∷ b) (λ m. ap (λ y. sameBytes m n || y) (h m)) ps)
-
-seen-pushed : (m n : List ℕ) (a : List (List ℕ)) → seenIn m (a ++ n ∷ []) ≡ (sameBytes m n || seenIn m a)
-seen-pushed m n [] = refl
-seen-pushed m n (x ∷ a) = ap (λ y. sameBytes m x || y) (seen-pushed m n a) ∙ turned (sameBytes m x) (sameBytes m n) (seenIn m a)
-  where
-    turned : (x y z : Bool) → (x || (y || z)) ≡ (y || (x || z))
-    turned true true z = refl
-    turned true false z = refl
-    turned false y z = refl
-
-seen-again : (m n : List ℕ) (a : List (List ℕ)) → seenIn n a ≡ true → seenIn m (a ++ n ∷ []) ≡ seenIn m a
-seen-again m n a h = seen-pushed m n a ∙ pick (sameBytes m n) refl
-  where
-    pick : (b : Bool) → sameBytes m n ≡ b → (b || seenIn m a) ≡ seenIn m a
-    pick true e = sym (ap (λ k. seenIn k a) (sameBytes-decides m n .0 e) ∙ h)
-    pick false e = refl
 
 and-true : (b : Bool) → (b && true) ≡ b
 and-true true = refl

@@ -9,6 +9,7 @@ use Rattle.std.specs.shelf.Text.{sameBytes}
 use Rattle.text.specs.Lists.{each, keep, some}
 use Rattle.text.specs.Literals.{Clause, lit, neg}
 use Rattle.text.specs.Word.{wordIn}
+use Rattle.problem.proofs.Names.{names-are}
 use Rattle.problem.specs.Cudf.{Numbered, numbered, seenIn, namesFrom, names, installedName, installedNames, versionsOf}
 use Rattle.problem.specs.Meaning.{packageOf, packagesIn, constraintsIn, problemOf}
 use Rattle.problem.specs.Naming.{rowNames}
@@ -19,12 +20,6 @@ use Rattle.problem.specs.declared.view.Problem.{Problem as View}
 use Rattle.verdict.specs.Indicators.{hasVersion, listed, listedFrom, changedRows, ofName, ofNames}
 use Rattle.verdict.specs.Opening.{removedClauses, changedClauses}
 use Rattle.verdict.specs.declared.names.Indicator.the-variants.{Removed, Changed}
-
-names-are : (text : List ℕ) (cs : List ConstraintRow) (seen : List (List ℕ)) (ps : List PackageRow) → rowNames text seen ps ≡ namesFrom seen (each (packageOf text cs) ps)
-names-are text cs seen [] = refl
-names-are text cs seen (p ∷ ps) =
-    let n = wordIn text (p .name) in
-    ap (λ y. cond (seenIn n seen) y (n ∷ rowNames text (n ∷ seen) ps)) (names-are text cs seen ps) ∙ ap (λ y. cond (seenIn n seen) (namesFrom seen (each (packageOf text cs) ps)) (n ∷ y)) (names-are text cs (n ∷ seen) ps)
 
 module _ (text : List ℕ) (cs : List ConstraintRow) (n : List ℕ) where
   abbrev versions : ℕ → List PackageRow → List Numbered

@@ -114,5 +114,5 @@ fn memory_is_cleared() -> Result<(), Fail> {
     );
     check_that(packages[0].version == 0 && packages[3].version == 0)?;
     check_that(constraints[0].name.len == 0)?;
-    check_that(table[1].is_unnamed() && table[3].is_unnamed())
+    check_that(!table[1].is_in() && !table[3].is_in())
 }

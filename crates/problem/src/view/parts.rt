@@ -53,7 +53,7 @@ impl<'t, 'p, 'c> Problem<'t, 'p, 'c> {
     }
 
     /// How many package stanzas there are.
-    pub fn len(&self) -> usize
+    pub(crate) fn len(&self) -> usize
         ensures { λ r. ⌜ r ≡ length (problemOf (now (self .entry)) .packages) ⌝ }
     {
         self.count

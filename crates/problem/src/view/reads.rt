@@ -26,7 +26,7 @@ impl<'t, 'p, 'c> Problem<'t, 'p, 'c> {
     }
 
     /// The constraints of all lists.
-    pub fn constraints(&self) -> &'c [ConstraintRow]
+    pub(crate) fn constraints(&self) -> &'c [ConstraintRow]
         ensures value { λ r. ⌜ now r ≡ constraintsIn (now (self .entry)) ⌝ }
         ensures len { λ r. ⌜ length (now r) ≡ now (self .entry) .asked ⌝ }
     {
@@ -52,14 +52,14 @@ impl<'t, 'p, 'c> Problem<'t, 'p, 'c> {
     }
 
     /// The constraints of which each asks for a package that satisfies it.
-    pub fn install(&self) -> &'c [ConstraintRow]
+    pub(crate) fn install(&self) -> &'c [ConstraintRow]
         ensures { λ r. ⌜ now r ≡ spanIn (constraintsIn (now (self .entry))) (now (self .entry) .install) ⌝ }
     {
         rows_of(self.constraints(), self.install)
     }
 
     /// The constraints that no package may satisfy.
-    pub fn remove(&self) -> &'c [ConstraintRow]
+    pub(crate) fn remove(&self) -> &'c [ConstraintRow]
         ensures { λ r. ⌜ now r ≡ spanIn (constraintsIn (now (self .entry))) (now (self .entry) .remove) ⌝ }
     {
         rows_of(self.constraints(), self.remove)
