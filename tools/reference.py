@@ -1,5 +1,5 @@
 #!/usr/bin/env python3
-"""A second implementation of upcheck, written from FORMATS.md and REFUSALS.md alone.
+"""A second implementation of upcheck, by the author of FORMATS.md and REFUSALS.md.
 
 Run in a folder with the files problem, answer and certificate, it prints the line. It is meant to
 be read beside those pages and compared with the real program; nothing in it is tuned for speed
@@ -136,6 +136,19 @@ LATER = {
 }
 
 
+def read_stanzas(reader, lines, form_fault):
+    for number, line, ended in lines:
+        if is_form_fault(line, ended):
+            reader.refuse(number, form_fault)
+        if line == b'':
+            reader.end_stanza()
+        elif reader.current is None:
+            reader.first_line(number, *property_of(line))
+        else:
+            reader.later_line(number, *property_of(line))
+    reader.end_stanza()
+
+
 class ProblemReader:
     def __init__(self):
         self.stanzas = []
@@ -190,16 +203,7 @@ class ProblemReader:
 
     def read(self, text):
         lines = document_lines(text)
-        for number, line, ended in lines:
-            if is_form_fault(line, ended):
-                self.refuse(number, 1)
-            if line == b'':
-                self.end_stanza()
-            elif self.current is None:
-                self.first_line(number, *property_of(line))
-            else:
-                self.later_line(number, *property_of(line))
-        self.end_stanza()
+        read_stanzas(self, lines, 1)
         if self.request is None:
             self.refuse(len(lines) + 1, 2)
         seen = set()
@@ -265,16 +269,7 @@ class AnswerReader:
     def read(self, text):
         if text == b'FAIL\n':
             return FAIL
-        for number, line, ended in document_lines(text):
-            if is_form_fault(line, ended):
-                self.refuse(number, 11)
-            if line == b'':
-                self.end_stanza()
-            elif self.current is None:
-                self.first_line(number, *property_of(line))
-            else:
-                self.later_line(number, *property_of(line))
-        self.end_stanza()
+        read_stanzas(self, document_lines(text), 11)
         return self.chosen
 
 
