@@ -1,4 +1,6 @@
 //! Times runs of both bases, at growing numbers of clauses. It prints nothing unless it is given a word.
+#![tactic(auto)]
+
 use clauses::base::ClauseBase;
 use clauses::counting::Counting;
 use clauses::row::Row;

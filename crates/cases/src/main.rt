@@ -1,4 +1,6 @@
 //! Runs a table of cases from standard input, and prints the line of each.
+#![tactic(auto)]
+
 use anyhow::anyhow;
 use problem::rows::{NO_CONSTRAINT, NO_PACKAGE};
 use problem::standing::Standing;

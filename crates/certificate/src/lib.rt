@@ -1,4 +1,6 @@
 //! Certificates: what a solver hands over, as steps.
+#![tactic(auto)]
+
 pub mod fault;
 pub mod form;
 pub mod found;

@@ -1,4 +1,6 @@
 //! Tests of certificate sources.
+#![tactic(auto)]
+
 #[cfg(test)]
 mod changes;
 #[cfg(test)]

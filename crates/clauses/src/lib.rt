@@ -1,4 +1,6 @@
 //! Clause bases: whether a clause follows from the clauses held, by unit propagation.
+#![tactic(auto)]
+
 pub mod base;
 mod common;
 mod counters;

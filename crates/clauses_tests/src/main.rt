@@ -1,4 +1,6 @@
 //! Plays the same calls on both bases and on a slow plain one, and says how often they differ.
+#![tactic(auto)]
+
 mod bases;
 mod log;
 mod plain;

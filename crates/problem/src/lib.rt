@@ -1,4 +1,6 @@
 //! Problems and answers: reading them, what a plan is, and its counts.
+#![tactic(auto)]
+
 pub mod answer;
 mod answer_lines;
 mod constraint;

@@ -1,7 +1,7 @@
 -- Writing one row after the other.
 use Rattle.std.proofs.Common.{◌≡◌, ℕ, ◌+◌, ◌/◌, ◌%◌, ◌^◌, ◌<◌, ◌≤◌, List, [], ◌∷◌, ◌++◌, length, get_or, take, Ok, Err, decimal, Result, sym, refl, ap, ◌∙◌, subst, arith}
-use Rattle.std.proofs.lemmas.Fmt.{decimal_digit, decimal_step}
-use Rattle.std.proofs.lemmas.List.{append_assoc, append-nil, take_more, take_all, length-append, length-take-le, length_push}
+use Rattle.std.proofs.lemmas.Fmt.{decimal_step}
+use Rattle.std.proofs.lemmas.List.{append_assoc, append-nil, take_more, length-append, length-take-le, length_push}
 use Rattle.text.specs.Appends.{Appends}
 use Rattle.text.specs.Rows.{items, room, Same, Pushes}
 use Rattle.text.specs.declared.rows.Rows.{Rows}

@@ -1,6 +1,6 @@
 -- What writing after the rows of a bounded list does.
 -- Appends: the rows go after the others; it is refused only where there is no room for all of them
-use Rattle.std.specs.Prelude.{◌≡◌, ℕ, ◌+◌, ◌<◌, List, ◌++◌, length, Ok, Err, Result}
+use Rattle.std.specs.Prelude.{◌≡◌, ◌+◌, ◌<◌, List, ◌++◌, length, Ok, Err, Result}
 use Rattle.text.specs.Rows.{items, room}
 use Rattle.text.specs.declared.rows.Rows.{Rows}
 

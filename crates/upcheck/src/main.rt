@@ -1,4 +1,6 @@
 //! Reads the files `problem`, `answer` and `certificate` in the current folder, and prints one line.
+#![tactic(auto)]
+
 use anyhow::anyhow;
 use problem::rows::{NO_CONSTRAINT, NO_PACKAGE};
 use problem::standing::Standing;

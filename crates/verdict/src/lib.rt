@@ -1,4 +1,6 @@
 //! From the bytes of the files to the line that is printed.
+#![tactic(auto)]
+
 pub mod case;
 pub mod check;
 mod counter;

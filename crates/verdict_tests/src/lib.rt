@@ -1,3 +1,5 @@
 //! Tests of the call from three files to the line.
+#![tactic(auto)]
+
 #[cfg(test)]
 mod tests;

@@ -1,4 +1,4 @@
-use Rattle.std.proofs.Common.{min, ◌∙◌, arith, rules}
+use Rattle.std.proofs.Common.{min, ◌∙◌, rules}
 use Rattle.text.proofs.Signs.{signed_neg, signed_zero, negative_some}
 use Rattle.text.proofs.digits.signed.Goals as goal
 
