@@ -4,7 +4,7 @@ use Rattle.std.proofs.lemmas.Int.{to_z-of_z}
 use Rattle.std.proofs.lemmas.List.{get_or-set_same, get_or-set_other, length-set, length-take-le, take_more, take_more_set, take_all, take-take, take-append-le, drop-take, drop_at, drop-set-lt, drop-drop, get_or-take, get_or_append_left, get_or-append_right}
 use Rattle.std.proofs.ByRecursion.{All-from_get_or}
 use Rattle.std.proofs.lemmas.Bool.{cases_lt}
-use Rattle.std.specs.List.{AllByRecursion as All}
+use Rattle.std.specs.List.{AllByRecursion}
 use Rattle.text.specs.Literals.{Clause, variable_of}
 use Rattle.clauses.specs.Rows.{no_row, row_at, span, held_in, Spans, Rising, Named, Ordered, Under, Dense}
 use Rattle.clauses.specs.Stored.{held, Sound}
@@ -90,7 +90,7 @@ module _ (old new : List ℤ) (c : Clause) (f : ℕ) (fl : f ≤ length old) (co
   held-copied : (rows : List Row) (n number : ℕ) → n < length rows → Spans rows n f → held_in new (take (n + 1) (set rows n (record { number = number; start = f; len = length c; live = true }))) ≡ held_in old (take n rows) ++ record { number = number; literals = c } ∷ []
   held-copied rows n number lt s =
       let r : Row = record { number = number; start = f; len = length c; live = true } in
-      let a : All (λ r. span new r ≡ span old r) (take n rows) = All-from_get_or (λ r. span new r ≡ span old r) (take n rows) no_row (λ i h. let q : i < n = omega (arith, length-take-le n rows (omega arith)) in rw (get_or-take n rows i no_row q) (span-kept (row_at rows i) (s i q))) in
+      let a : AllByRecursion (λ r. span new r ≡ span old r) (take n rows) = All-from_get_or (λ r. span new r ≡ span old r) (take n rows) no_row (λ i h. let q : i < n = omega (arith, length-take-le n rows (omega arith)) in rw (get_or-take n rows i no_row q) (span-kept (row_at rows i) (s i q))) in
       ap (held_in new) (take_more_set rows n r lt) ∙ held_append new (take n rows) (r ∷ []) ∙ rw (held_same old new (take n rows) a, span-new)
 
 -- s with the clause c under a number is u

@@ -1,7 +1,7 @@
 -- The live clauses of rows.
 use Rattle.std.proofs.Common.{◌≡◌, ℕ, zero, suc, ◌+◌, ◌<◌, ◌≤◌, Bool, true, false, cond, not, ◌||◌, T, eqb, List, [], ◌∷◌, ◌++◌, length, take, set, ℤ, sym, refl, ap, ◌∙◌, subst, le_of_suc-le-suc, arith}
 use Rattle.std.proofs.lemmas.Bool.{eq-eqb, ne_eqb}
-use Rattle.std.specs.List.{AllByRecursion as All}
+use Rattle.std.specs.List.{AllByRecursion}
 use Rattle.text.specs.Lists.{each, keep, some}
 use Rattle.text.specs.Literals.{Clause}
 use Rattle.clauses.specs.Propagation.{Held, HeldAt}
@@ -29,7 +29,7 @@ held_append lits (r ∷ rs) qs = rw (held_first lits r rs) (held_first lits r (r
     go true h = ap (λ (hs : List Held). held_of lits r ∷ hs) h
     go false h = h
 
-pub held_same : (old new : List ℤ) (rs : List Row) → All (λ r. span new r ≡ span old r) rs → held_in new rs ≡ held_in old rs
+pub held_same : (old new : List ℤ) (rs : List Row) → AllByRecursion (λ r. span new r ≡ span old r) rs → held_in new rs ≡ held_in old rs
 held_same old new [] a = refl
 held_same old new (r ∷ rs) a = held_first new r rs ∙ go r.live (held_same old new rs a.1) ∙ sym (held_first old r rs)
   where

@@ -4,7 +4,7 @@ use mathlib.Core.Path.{fun_ext}
 use Rattle.std.proofs.lemmas.Int.{to_z-of_z}
 use Rattle.std.proofs.lemmas.List.{get_or-set_same, get_or-set_other, get_or-take, get_or-drop, length-take, length-drop}
 use Rattle.std.proofs.lemmas.Bool.{eqb-true, eqb-false}
-use Rattle.std.specs.List.{AllByRecursion as All}
+use Rattle.std.specs.List.{AllByRecursion}
 use Rattle.text.specs.Literals.{Clause, variable_of, positive}
 use Rattle.clauses.specs.Propagation.{Values, is_unset, set_true}
 use Rattle.clauses.specs.Cells.{values_of, Placed, unset_count}
@@ -44,12 +44,12 @@ unset_most (x ∷ xs) = go (is_unset x) (unset_most xs)
     go false h = omega arith
 
 -- what holds of each row's clause holds of each clause held
-pub all_held : (P : Clause → Type 0) (lits : List ℤ) (rows : List Row) (count : ℕ) → count ≤ length rows → ((k : ℕ) → k < count → P (span lits (row_at rows k))) → All (λ h. P h.literals) (held_in lits (take count rows))
+pub all_held : (P : Clause → Type 0) (lits : List ℤ) (rows : List Row) (count : ℕ) → count ≤ length rows → ((k : ℕ) → k < count → P (span lits (row_at rows k))) → AllByRecursion (λ h. P h.literals) (held_in lits (take count rows))
 all_held P lits rows zero le h = tt
 all_held P lits [] (suc n) le h = absurd (omega arith)
 all_held P lits (r ∷ rs) (suc n) le h = rw (held_first lits r (take n rs)) (go r.live (all_held P lits rs n (le_of_suc-le-suc le) (λ k lt. h (suc k) (omega arith))))
   where
-    go : (b : Bool) → All (λ h. P h.literals) (held_in lits (take n rs)) → All (λ h. P h.literals) (onto lits r (held_in lits (take n rs)) b)
+    go : (b : Bool) → AllByRecursion (λ h. P h.literals) (held_in lits (take n rs)) → AllByRecursion (λ h. P h.literals) (onto lits r (held_in lits (take n rs)) b)
     go true i = (h 0 (omega arith), i)
     go false i = i
 

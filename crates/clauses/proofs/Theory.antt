@@ -1,7 +1,7 @@
 -- Unit propagation is sound and, at a fixpoint, complete. Any engine can use these.
 use Rattle.std.proofs.Common.{◌≡◌, ℕ, suc, ◌<◌, ◌≤◌, Bool, true, false, cond, not, ◌&&◌, ◌||◌, T, eqb, ◌⊎◌, List, [], ◌∷◌, ◌++◌, ℤ, pos, negsuc, Some, None, Option, sym, refl, ap, ◌∙◌, subst, inl, inr, arith, eqb→eq}
 use mathlib.Core.Path.{fun_ext}
-use Rattle.std.specs.List.{AllByRecursion as All}
+use Rattle.std.specs.List.{AllByRecursion}
 use Rattle.text.specs.Literals.{Clause, variable_of, positive}
 use Rattle.clauses.specs.Propagation.{Values, flip, value, is_unset, is_false, is_true, all_false, satisfied, unset_in, set_true}
 use Rattle.text.proofs.Members.{and_left, and_right}
@@ -111,7 +111,7 @@ set_below g f l up h v b = go (eqb v (variable_of l)) refl
     go false e i = up v b i
 
 -- what a held clause's number finds is among the clauses
-held_all : (P : Clause → Type 0) (live : List Held) (n : ℕ) (c : Clause) → All (λ h. P h.literals) live → HeldAt live n c → P c
+held_all : (P : Clause → Type 0) (live : List Held) (n : ℕ) (c : Clause) → AllByRecursion (λ h. P h.literals) live → HeldAt live n c → P c
 held_all P [] n c a i = absurd i
 held_all P (h ∷ hs) n c a i = go (eqb h.number n) i (held_all P hs n c a.1)
   where
@@ -120,7 +120,7 @@ held_all P (h ∷ hs) n c a i = go (eqb h.number n) i (held_all P hs n c a.1)
     go false e rest = rest e
 
 -- At a fixpoint nothing is refuted: if each clause is settled under f, and f has all that g has, then no chain starts at g.
-pub fixpoint : (live : List Held) (f : Values) → All (λ h. Settled f h.literals) live → (g : Values) (ns : List ℕ) → Below g f → Chain live g ns → ⊥
+pub fixpoint : (live : List Held) (f : Values) → AllByRecursion (λ h. Settled f h.literals) live → (g : Values) (ns : List ℕ) → Below g f → Chain live g ns → ⊥
 fixpoint live f settled g [] up h = h
 fixpoint live f settled g (n ∷ []) up h =
     no_conflict f h.0 (all_false_below g f up h.0 h.1.1) (held_all (Settled f) live n h.0 settled h.1.0)
@@ -130,7 +130,7 @@ fixpoint live f settled g (n ∷ k ∷ ns) up h =
     let t : value f h.1 ≡ Some true = last_true f u.before h.1 u.after (all_false_below g f up u.before u.before_false) (all_false_below g f up u.after u.after_false) s in
     fixpoint live f settled (set_true g h.1) (k ∷ ns) (set_below g f h.1 up t) h.2.2
 
-pub not_refuted : (live : List Held) (f g : Values) → All (λ h. Settled f h.literals) live → Below g f → Refuted live g → ⊥
+pub not_refuted : (live : List Held) (f g : Values) → AllByRecursion (λ h. Settled f h.literals) live → Below g f → Refuted live g → ⊥
 not_refuted live f g settled up r = fixpoint live f settled g r.0 up r.1
 
 -- Soundness: steps, one after the other, and then a conflict.
@@ -175,7 +175,7 @@ pub refuted_at : (live : List Held) (f g : Values) (n : ℕ) (c : Clause) → Re
 refuted_at live f g n c p at h = p.back (n ∷ [], (c, (at, h)))
 
 -- the refutation of a step is one of what it started from, and the other way round at a fixpoint
-pub settled_refuted : (live : List Held) (f g : Values) → Reached live f g → All (λ h. Settled g h.literals) live → Refuted live f → ⊥
+pub settled_refuted : (live : List Held) (f g : Values) → Reached live f g → AllByRecursion (λ h. Settled g h.literals) live → Refuted live f → ⊥
 settled_refuted live f g p settled = not_refuted live g f settled p.below
 
 -- Confluence: what is refuted stays so where more is set.

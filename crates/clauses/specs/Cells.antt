@@ -2,7 +2,7 @@
 -- values_of: the values that cells hold; Placed: each literal's variable has a cell among the first n
 -- unset_count: how many cells are unset; AllSettled: no clause held can make a step
 use Rattle.std.specs.Prelude.{ℕ, ◌<◌, Bool, List, length, pos, None, Option, slice_index_or}
-use Rattle.std.specs.List.{AllByRecursion as All}
+use Rattle.std.specs.List.{AllByRecursion}
 use Rattle.text.specs.Lists.{how_many}
 use Rattle.text.specs.Literals.{Clause, variable_of}
 use Rattle.clauses.specs.Propagation.{Held, Values, is_unset, Settled}
@@ -17,4 +17,4 @@ abbrev pub unset_count : List (Option Bool) → ℕ
 unset_count xs = how_many is_unset xs
 
 abbrev pub AllSettled : List Held → List (Option Bool) → Type 0
-AllSettled live xs = All (λ h. Settled (values_of xs) h.literals) live
+AllSettled live xs = AllByRecursion (λ h. Settled (values_of xs) h.literals) live

@@ -5,7 +5,7 @@
 -- some, every: whether one member passes, whether all do; how_many: how many do
 -- Each: what holds of each member
 use Rattle.std.specs.Prelude.{ℕ, zero, suc, Bool, true, false, cond, ◌&&◌, ◌||◌, List, [], ◌∷◌, map, filter}
-use Rattle.std.specs.List.{flat_map, AllByRecursion as All}
+use Rattle.std.specs.List.{flat_map, AllByRecursion}
 
 abbrev pub up_from : ℕ → ℕ → List ℕ
 up_from from zero = []
@@ -33,4 +33,4 @@ how_many t [] = 0
 how_many t (x ∷ xs) = cond (t x) (suc (how_many t xs)) (how_many t xs)
 
 abbrev pub Each : {X : Type 0} → (X → Type 0) → List X → Type 0
-Each P xs = All P xs
+Each P xs = AllByRecursion P xs
