@@ -5,7 +5,6 @@ use Rattle.std.proofs.lemmas.Bool.{eq-eqb, ne_eqb, le-leb, lt-ltb}
 use Rattle.std.specs.Fmt as written
 use Rattle.text.proofs.Cuts.{done_tells}
 use Rattle.text.proofs.Members.{each_append, each_weaker, each_each_all}
-use Rattle.text.specs.Decimal.{decimal, signed}
 use Rattle.text.specs.Lists.{each, each_all, Each}
 use Rattle.text.specs.Literals.{variable_of}
 use Rattle.text.specs.Pieces.{pieces}

@@ -8,5 +8,5 @@ use Rattle.certificate.proofs.line.read_clause.Goals as goal
 pub returns : goal.returns
 returns c =
     let n = length c.args.literals.now in
-    let m = whole_at c.push-clause.new.rows (clause_kept n (clause (pieces 32 c.args.line.now))) n (pos 0) (search rules) (search rules) (search rules) in
+    let m = whole_at c.push_clause.new.rows (clause_kept n (clause (pieces 32 c.args.line.now))) n (pos 0) (search rules) (search rules) (search rules) in
     record { answer = search rules; memory = search rules }

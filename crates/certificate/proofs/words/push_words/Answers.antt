@@ -5,15 +5,15 @@ use Rattle.certificate.specs.Hinted.{words}
 use Rattle.certificate.proofs.FourBytes.{words_more, words_all, words_fit}
 use Rattle.certificate.proofs.words.push_words.Goals as goal
 
-pub returns-then-is-err : goal.returns-then-is-err
-returns-then-is-err g c =
+pub returns-then-is_err : goal.returns-then-is_err
+returns-then-is_err g c =
     let r = c.loop-rest.rows in
     let full : length (items r) ≡ room c.args.rows.now = search rules in
     absurd (words_fit g.T.Word.meant c.loop-rest.rest.now c.args.bytes.now (items r) (items c.args.rows.now) (room c.args.rows.now) (search rules) full c.requires c.loop-rest.invariant.0)
 
 pub loop-rest-preserved : goal.loop-rest-preserved
 loop-rest-preserved g c =
-    (words_more g.T.Word.meant c.loop-rest.rest.now (items c.loop-rest.rows) (items c.push.new.self) (items c.args.rows.now ++ each g.T.Word.meant (words c.args.bytes.now)) c.of-bytes-word.result (search rules) c.of-bytes-word.ensures (search rules) c.loop-rest.invariant.0, search rules)
+    (words_more g.T.Word.meant c.loop-rest.rest.now (items c.loop-rest.rows) (items c.push.new.self) (items c.args.rows.now ++ each g.T.Word.meant (words c.args.bytes.now)) c.of_bytes-word.result (search rules) c.of_bytes-word.ensures (search rules) c.loop-rest.invariant.0, search rules)
 
 pub returns : goal.returns
 returns g c =

@@ -6,5 +6,5 @@ use Rattle.certificate.proofs.words.put_literals.Goals as goal
 
 pub returns : goal.returns
 returns c =
-    let m = whole_at c.push-words.new.rows (each (to_z w32) (words c.args.bytes.now)) (length c.args.memory.now) (pos 0) (search rules) (search rules) (search rules) in
+    let m = whole_at c.push_words.new.rows (each (to_z w32) (words c.args.bytes.now)) (length c.args.memory.now) (pos 0) (search rules) (search rules) (search rules) in
     search rules

@@ -5,7 +5,7 @@ use Rattle.certificate.proofs.hinted.HintedSource.new.Goals as goal
 
 pub returns : goal.returns
 returns c =
-    let e = trailer_read c.args.bytes.now c.from-le-bytes-stated.result c.if-bytes-lt8.false c.from-le-bytes-stated.ensures in
+    let e = trailer_read c.args.bytes.now c.from_le_bytes-stated.result c.if-bytes-lt8.false c.from_le_bytes-stated.ensures in
     record { meaning = e; back = hinted_back c.args.bytes.now _ e; first = hinted_first c.args.bytes.now _ e }
 
 pub returns-then-bytes-lt8 : goal.returns-then-bytes-lt8
