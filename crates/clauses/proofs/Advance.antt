@@ -1,5 +1,5 @@
 -- An engine that goes on by forced literals.
-use Rattle.std.proofs.Common.{◌≡◌, ℕ, suc, ◌+◌, ◌<◌, ◌≤◌, Bool, true, false, List, length, set, ℤ, Some, None, Decides, Option, sym, refl, ap, ◌∙◌, subst, arith, w32, SFits, to_z, of_z}
+use Rattle.std.proofs.Common.{◌≡◌, ℕ, ◌+◌, ◌<◌, Bool, List, length, set, ℤ, Some, None, Decides, Option, ap, ◌∙◌, arith, w32, SFits, to_z, of_z}
 use Rattle.std.proofs.lemmas.List.{length-set}
 use Rattle.std.proofs.lemmas.Int.{to_z-of_z}
 use Rattle.text.specs.Literals.{Clause, variable_of, positive}
@@ -8,11 +8,11 @@ use Rattle.clauses.specs.Status.{status_from}
 use Rattle.clauses.specs.Cells.{values_of, unset_count}
 use Rattle.clauses.specs.Rows.{row_at, span}
 use Rattle.clauses.specs.Stored.{held}
-use Rattle.clauses.specs.Engine.{Advanced, Ready}
+use Rattle.clauses.specs.Engine.{Ready}
 use Rattle.clauses.specs.declared.scan.Status.TheVariants.{Forced}
 use Rattle.clauses.specs.declared.store.Store.{Store}
 use Rattle.clauses.specs.declared.trail.Trail.{Trail}
-use Rattle.clauses.proofs.Theory.{reached_none, reached_more, refuted_on}
+use Rattle.clauses.proofs.Theory.{reached_none, refuted_on}
 use Rattle.clauses.proofs.Memory.{named_push}
 use Rattle.clauses.proofs.OneRow.{row-forced, row-literal}
 

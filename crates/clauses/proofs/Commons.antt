@@ -1,18 +1,18 @@
 -- What the calls on the common part of every base leave.
-use Rattle.std.proofs.Common.{◌≡◌, ℕ, ◌+◌, ◌-◌, ◌^◌, ◌<◌, ◌≤◌, Bool, true, false, cond, not, T, eqb, ◌≢◌, ◌⊎◌, List, [], ◌∷◌, length, get_or, drop, set, ℤ, pos, is_some, Some, None, Ok, Option, sym, refl, ap, ◌∙◌, subst, inl, inr, arith, w32, SFits, to_z, of_z, below_more}
+use Rattle.std.proofs.Common.{◌≡◌, ℕ, ◌+◌, ◌-◌, ◌<◌, ◌≤◌, Bool, true, not, ◌≢◌, ◌⊎◌, List, [], ◌∷◌, length, get_or, drop, set, ℤ, pos, is_some, Some, None, Ok, Option, sym, refl, ap, ◌∙◌, subst, inl, inr, arith, w32, SFits, to_z, of_z, below_more}
 use mathlib.Core.Path.{fun_ext}
 use Rattle.std.proofs.lemmas.Int.{to_z-of_z}
-use Rattle.std.proofs.lemmas.List.{get_or-set_same, get_or-set_other, get_or_past, drop_more, drop_all}
+use Rattle.std.proofs.lemmas.List.{get_or-set_same, get_or-set_other, get_or_past, drop_more}
 use Rattle.std.proofs.lemmas.Bool.{cases_lt}
 use Rattle.text.specs.Literals.{Clause, variable_of, positive}
 use Rattle.text.proofs.Members.{holds_from}
-use Rattle.clauses.specs.Propagation.{Values, set_false, set_true, denied, unset_all, HeldAt, Unit', Settled, all_false}
-use Rattle.clauses.specs.ClauseBase.{Meaning, Trial, idle, running, answered, is_live, value_in, with_deleted, with_trial}
-use Rattle.clauses.specs.Calls.{Deletes, Hints, Says, NotRunning}
+use Rattle.clauses.specs.Propagation.{Values, set_false, denied, HeldAt, Unit'}
+use Rattle.clauses.specs.ClauseBase.{Meaning, Trial, running, is_live, value_in, with_deleted, with_trial}
+use Rattle.clauses.specs.Calls.{Deletes, Hints}
 use Rattle.clauses.specs.Cells.{values_of, Placed}
 use Rattle.clauses.specs.Status.{status_from}
-use Rattle.clauses.specs.Rows.{row_at, span}
-use Rattle.clauses.specs.Stored.{held, Sound, Kept}
+use Rattle.clauses.specs.Rows.{row_at}
+use Rattle.clauses.specs.Stored.{held, Sound}
 use Rattle.clauses.specs.Finding.{Found, TakenOut}
 use Rattle.clauses.specs.Events.{clause_at}
 use Rattle.clauses.specs.Common.{trial_of, room_of, meaning_of, Sane, Steady}
@@ -22,7 +22,6 @@ use Rattle.clauses.specs.declared.store.Store.{Store}
 use Rattle.clauses.specs.declared.phase.Phase.{Phase}
 use Rattle.clauses.specs.declared.phase.Phase.TheVariants.{Idle, Open, Answered}
 use Rattle.clauses.specs.declared.scan.Status.TheVariants.{Conflict as Conflicting, Forced, Other}
-use Rattle.clauses.specs.declared.fault.Hinted.{Hinted}
 use Rattle.clauses.specs.declared.fault.Hinted.TheVariants.{Conflict, Useless, Unit as OneLeft}
 use Rattle.clauses.proofs.Theory.{no_conflict, settled_unit}
 use Rattle.clauses.proofs.Memory.{values_write, values_set}

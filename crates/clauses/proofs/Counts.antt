@@ -1,13 +1,13 @@
 -- Counters of the literals that are not false.
-use Rattle.std.proofs.Common.{◌≡◌, ℕ, zero, suc, ◌+◌, ◌<◌, ◌≤◌, Bool, true, false, cond, not, ◌||◌, T, eqb, ◌⊎◌, List, [], ◌∷◌, ◌++◌, length, get_or, take, ℤ, pos, negsuc, Some, None, Option, sym, refl, ap, ◌∙◌, subst, inl, inr, arith, w32, SFits, to_z, of_z}
+use Rattle.std.proofs.Common.{◌≡◌, ℕ, suc, ◌+◌, ◌<◌, ◌≤◌, Bool, true, false, cond, not, T, eqb, ◌⊎◌, [], ◌∷◌, length, get_or, take, ℤ, pos, negsuc, Some, None, Option, sym, refl, ap, ◌∙◌, inl, inr, arith, w32, SFits, to_z, of_z}
 use Rattle.std.proofs.lemmas.Int.{to_z-of_z}
 use Rattle.std.proofs.lemmas.List.{take_more, take_all}
 use Rattle.clauses.proofs.Tallies.{how_many_push}
-use Rattle.std.proofs.lemmas.Bool.{eq-eqb, cases_eq, cases_lt}
-use Rattle.text.specs.Literals.{Clause, variable_of, positive}
+use Rattle.std.proofs.lemmas.Bool.{eq-eqb}
+use Rattle.text.specs.Literals.{Clause}
 use Rattle.clauses.specs.Propagation.{Values, value, flip, is_unset, is_false, is_true, satisfied, unset_in, set_true}
 use Rattle.clauses.specs.Propagation.{Settled, Below}
-use Rattle.clauses.specs.Codes.{code_of, code_against, Against, Hit}
+use Rattle.clauses.specs.Codes.{code_of, code_against, Against}
 use Rattle.clauses.specs.Counting.{hits, non_false, Gives, Gap}
 use Rattle.clauses.specs.Events.{Waiting}
 use Rattle.clauses.specs.declared.trail.Trail.{Trail}

@@ -1,12 +1,12 @@
 -- The lists of a store's rows, as they are built.
-use Rattle.std.proofs.Common.{◌≡◌, ℕ, zero, suc, ◌+◌, ◌-◌, ◌*◌, ◌^◌, ◌<◌, ◌≤◌, Bool, true, false, cond, eqb, ◌≢◌, ◌⊎◌, List, length, get_or, take, set, ℤ, pos, sym, refl, ap, ◌∙◌, subst, inl, inr, add-zero, add-one, arith, w32, SFits, to_z, of_z, below_more}
+use Rattle.std.proofs.Common.{◌≡◌, ℕ, suc, ◌+◌, ◌-◌, ◌*◌, ◌^◌, ◌<◌, ◌≤◌, Bool, true, false, cond, eqb, ◌≢◌, ◌⊎◌, List, length, get_or, take, set, ℤ, pos, sym, refl, ap, ◌∙◌, subst, inl, inr, add-zero, add-one, arith, w32, SFits, to_z, of_z, below_more}
 use Rattle.std.proofs.lemmas.Int.{to_z-of_z}
 use Rattle.std.proofs.lemmas.List.{get_or-set_same, get_or-set_other, length-set, length-take, take_more, take_all}
 use Rattle.text.specs.Literals.{variable_of, positive}
 use Rattle.clauses.specs.Rows.{row_at}
 use Rattle.clauses.specs.Codes.{code_of}
-use Rattle.clauses.specs.Linked.{On, Falling, AllBelow, Linked}
-use Rattle.clauses.specs.Events.{clause_at, Listed, Fit, Same, Indexed, Entering}
+use Rattle.clauses.specs.Linked.{Falling, Linked}
+use Rattle.clauses.specs.Events.{clause_at, Listed, Fit, Indexed, Entering}
 use Rattle.clauses.specs.declared.store.Store.{Store}
 use Rattle.clauses.specs.declared.index.Index.{Index}
 use Rattle.clauses.proofs.OneRow.{row_named}

@@ -1,5 +1,5 @@
 -- A clause that was looked at, and what became of the others.
-use Rattle.std.proofs.Common.{◌≡◌, ℕ, zero, suc, ◌+◌, ◌<◌, ◌≤◌, Bool, true, false, cond, not, ◌||◌, T, eqb, ◌≢◌, ◌⊎◌, List, [], ◌∷◌, ◌++◌, length, get_or, set, ℤ, pos, negsuc, Some, None, Option, sym, refl, ap, ◌∙◌, subst, inl, inr, arith, w32, SFits, to_z, of_z}
+use Rattle.std.proofs.Common.{◌≡◌, ℕ, suc, ◌+◌, ◌<◌, ◌≤◌, Bool, true, false, cond, T, eqb, ◌≢◌, ◌⊎◌, List, [], ◌∷◌, ◌++◌, length, get_or, set, ℤ, pos, negsuc, Some, None, Option, sym, refl, ap, ◌∙◌, inl, inr, arith, w32, SFits, to_z, of_z}
 use Rattle.std.proofs.lemmas.Int.{to_z-of_z}
 use Rattle.std.proofs.lemmas.List.{get_or-set_same, get_or-set_other}
 use Rattle.std.proofs.lemmas.Bool.{eq-eqb, eqb-true}
@@ -11,7 +11,7 @@ use Rattle.clauses.specs.Cells.{values_of}
 use Rattle.clauses.specs.Rows.{row_at, span}
 use Rattle.clauses.specs.Stored.{Sound}
 use Rattle.clauses.specs.Engine.{Ready}
-use Rattle.clauses.specs.Events.{clause_at, Examined, Waiting}
+use Rattle.clauses.specs.Events.{Examined, Waiting}
 use Rattle.clauses.specs.Codes.{Hit}
 use Rattle.clauses.specs.Counting.{Gives}
 use Rattle.clauses.specs.declared.scan.Status.TheVariants.{Forced, Other}

@@ -1,10 +1,10 @@
 -- Clauses of a store by their numbers.
-use Rattle.std.proofs.Common.{◌≡◌, ℕ, ◌+◌, ◌<◌, ◌≤◌, Bool, true, false, ◌⊎◌, List, length, get_or, set, sym, refl, ap, ◌∙◌, subst, inl, inr, arith}
+use Rattle.std.proofs.Common.{◌≡◌, ℕ, ◌<◌, ◌≤◌, true, false, ◌⊎◌, List, length, set, sym, refl, ap, ◌∙◌, inl, inr, arith}
 use Rattle.std.proofs.lemmas.List.{get_or-set_same, get_or-set_other, length-set}
 use Rattle.std.proofs.lemmas.Bool.{cases_lt, cases_eq, false≢true}
 use Rattle.clauses.specs.ClauseBase.{is_live}
 use Rattle.clauses.specs.Rows.{no_row, row_at}
-use Rattle.clauses.specs.Stored.{held, Sound, Kept}
+use Rattle.clauses.specs.Stored.{held, Sound}
 use Rattle.clauses.specs.Finding.{TakenOut}
 use Rattle.clauses.specs.declared.row.Row.{Row}
 use Rattle.clauses.specs.declared.store.Store.{Store}

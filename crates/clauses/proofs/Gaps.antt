@@ -1,13 +1,12 @@
 -- A store whose gaps are being closed.
-use Rattle.std.proofs.Common.{◌≡◌, ℕ, zero, suc, ◌+◌, ◌-◌, ◌^◌, ◌<◌, ◌≤◌, Bool, true, false, ◌⊎◌, List, [], ◌∷◌, ◌++◌, length, get_or, take, drop, set, ℤ, pos, sym, refl, ap, ◌∙◌, subst, inl, inr, append-nil, arith}
-use Rattle.std.proofs.lemmas.List.{length-set, length-take-le, length-drop, length_push, take_more, take_all, take-take, take-append-drop, drop-take, drop-set-lt, drop-drop, get_or-take, get_or-drop}
+use Rattle.std.proofs.Common.{◌≡◌, ℕ, ◌+◌, ◌-◌, ◌<◌, ◌≤◌, true, false, ◌⊎◌, List, [], ◌∷◌, ◌++◌, length, get_or, take, drop, set, ℤ, pos, sym, refl, ap, ◌∙◌, subst, inl, inr, append-nil, arith}
+use Rattle.std.proofs.lemmas.List.{length-set, length-take-le, length-drop, length_push, take_more, take-take, take-append-drop, drop-take, drop-set-lt, drop-drop, get_or-take, get_or-drop}
 use Rattle.std.proofs.lemmas.Bool.{cases_lt}
-use Rattle.text.specs.Literals.{Clause, variable_of}
-use Rattle.clauses.specs.Propagation.{Held}
+use Rattle.text.specs.Literals.{Clause}
 use Rattle.clauses.specs.ClauseBase.{literal_count}
-use Rattle.clauses.specs.Rows.{no_row, row_at, span, held_of, held_in, Spans, Rising, Named, Ordered, Under, Dense}
-use Rattle.clauses.specs.Stored.{held, Sound, Kept}
-use Rattle.clauses.specs.Growth.{Speaks, Copying, Copied, Sealed}
+use Rattle.clauses.specs.Rows.{no_row, row_at, span, held_in, Under}
+use Rattle.clauses.specs.Stored.{held, Sound}
+use Rattle.clauses.specs.Growth.{Copying, Copied, Sealed}
 use Rattle.clauses.specs.Closing.{Closed, Closing}
 use Rattle.clauses.specs.declared.row.Row.{Row}
 use Rattle.clauses.specs.declared.store.Store.{Store}

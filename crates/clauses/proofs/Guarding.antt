@@ -1,12 +1,12 @@
 -- The watching engine, step by step.
-use Rattle.std.proofs.Common.{◌≡◌, ℕ, zero, suc, ◌+◌, ◌-◌, ◌*◌, ◌^◌, ◌<◌, ◌≤◌, Bool, true, false, not, T, ◌≢◌, ◌⊎◌, List, length, get_or, set, ℤ, pos, Some, None, Option, sym, refl, ap, ◌∙◌, subst, inl, inr, arith, below_more}
+use Rattle.std.proofs.Common.{◌≡◌, ℕ, ◌+◌, ◌-◌, ◌*◌, ◌^◌, ◌<◌, ◌≤◌, Bool, true, false, T, ◌≢◌, ◌⊎◌, List, length, get_or, set, ℤ, pos, Some, None, Option, sym, refl, ap, ◌∙◌, subst, inl, inr, arith, below_more}
 use Rattle.std.proofs.lemmas.List.{get_or-set_same, get_or-set_other, length-set}
-use Rattle.std.proofs.lemmas.Bool.{cases_eq, cases_lt, false≢true}
+use Rattle.std.proofs.lemmas.Bool.{cases_eq, false≢true}
 use Rattle.text.specs.Literals.{Clause, variable_of}
-use Rattle.clauses.specs.Propagation.{Values, value, is_false, satisfied, Settled, Reached, Below, Refuted}
+use Rattle.clauses.specs.Propagation.{value, is_false, satisfied, Settled, Reached, Below, Refuted}
 use Rattle.clauses.specs.Cells.{values_of}
 use Rattle.clauses.specs.Codes.{code_of, code_against, Against}
-use Rattle.clauses.specs.Linked.{On, AllBelow, Linked}
+use Rattle.clauses.specs.Linked.{On, Linked}
 use Rattle.clauses.specs.Engine.{Advanced, Ready}
 use Rattle.clauses.specs.Stored.{held, Sound}
 use Rattle.clauses.specs.Events.{clause_at, Listed, Same, Examined, Looked}

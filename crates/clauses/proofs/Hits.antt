@@ -1,12 +1,12 @@
 -- What one more value does to the clauses that are settled.
-use Rattle.std.proofs.Common.{◌≡◌, ℕ, zero, suc, ◌+◌, ◌*◌, ◌<◌, ◌≤◌, Bool, true, false, cond, not, ◌||◌, T, eqb, ◌⊎◌, List, [], ◌∷◌, length, get_or, ℤ, pos, negsuc, Some, None, Option, sym, refl, ap, ◌∙◌, subst, inl, inr, arith}
+use Rattle.std.proofs.Common.{◌≡◌, ℕ, suc, ◌+◌, ◌*◌, Bool, true, false, cond, not, ◌||◌, T, eqb, ◌⊎◌, [], ◌∷◌, ℤ, pos, negsuc, Some, None, Option, refl, ap, inl, inr, arith}
 use Rattle.std.proofs.lemmas.Bool.{eqb-true}
 use Rattle.text.specs.Literals.{Clause, variable_of, positive}
 use Rattle.clauses.specs.Propagation.{Values, value, flip, is_unset, is_true, satisfied, unset_in, set_true}
 use Rattle.clauses.specs.Propagation.{Settled, Below}
 use Rattle.text.proofs.Members.{or_left, or_right, or_cases}
 use Rattle.clauses.specs.Codes.{code_of, code_against, Against, Hit}
-use Rattle.clauses.proofs.Theory.{by_value, value_below, below_set}
+use Rattle.clauses.proofs.Theory.{value_below, below_set}
 
 -- the opposite stands in the opposite's list
 pub against_code : (l m : ℤ) → Against l m → code_of m ≡ code_against l

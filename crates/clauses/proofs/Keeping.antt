@@ -1,8 +1,8 @@
 -- The live clauses of rows.
-use Rattle.std.proofs.Common.{◌≡◌, ℕ, zero, suc, ◌+◌, ◌<◌, ◌≤◌, Bool, true, false, cond, not, ◌||◌, T, eqb, List, [], ◌∷◌, ◌++◌, length, take, set, ℤ, sym, refl, ap, ◌∙◌, subst, le_of_suc-le-suc, arith}
+use Rattle.std.proofs.Common.{◌≡◌, ℕ, zero, suc, ◌+◌, ◌<◌, ◌≤◌, Bool, true, false, cond, ◌||◌, eqb, List, [], ◌∷◌, ◌++◌, length, take, set, ℤ, sym, refl, ap, ◌∙◌, le_of_suc-le-suc, arith}
 use Rattle.std.proofs.lemmas.Bool.{eq-eqb, ne_eqb}
 use Rattle.std.specs.List.{AllByRecursion}
-use Rattle.text.specs.Lists.{each, keep, some}
+use Rattle.text.specs.Lists.{each, keep}
 use Rattle.text.specs.Literals.{Clause}
 use Rattle.clauses.specs.Propagation.{Held, HeldAt}
 use Rattle.clauses.specs.ClauseBase.{is_live, without, literal_count}

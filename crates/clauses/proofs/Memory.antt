@@ -1,16 +1,16 @@
 -- Values and clauses in memory, against what they mean.
-use Rattle.std.proofs.Common.{◌≡◌, ℕ, zero, suc, ◌+◌, ◌-◌, ◌<◌, ◌≤◌, Bool, true, false, cond, eqb, ◌≢◌, List, [], ◌∷◌, length, get_or, take, drop, set, ℤ, pos, Some, None, Option, sym, refl, ap, ◌∙◌, subst, le_of_suc-le-suc, arith, w32, SFits, to_z, of_z, below_more}
+use Rattle.std.proofs.Common.{◌≡◌, ℕ, zero, suc, ◌+◌, ◌-◌, ◌<◌, ◌≤◌, Bool, true, false, cond, eqb, ◌≢◌, List, [], ◌∷◌, length, get_or, take, drop, set, ℤ, pos, Some, None, Option, refl, ap, ◌∙◌, le_of_suc-le-suc, arith, w32, SFits, to_z, of_z, below_more}
 use mathlib.Core.Path.{fun_ext}
 use Rattle.std.proofs.lemmas.Int.{to_z-of_z}
 use Rattle.std.proofs.lemmas.List.{get_or-set_same, get_or-set_other, get_or-take, get_or-drop, length-take, length-drop}
 use Rattle.std.proofs.lemmas.Bool.{eqb-true, eqb-false}
 use Rattle.std.specs.List.{AllByRecursion}
 use Rattle.text.specs.Literals.{Clause, variable_of, positive}
-use Rattle.clauses.specs.Propagation.{Values, is_unset, set_true}
+use Rattle.clauses.specs.Propagation.{is_unset, set_true}
 use Rattle.clauses.specs.Cells.{values_of, Placed, unset_count}
 use Rattle.clauses.specs.Rows.{row_at, span, held_in, Named}
 use Rattle.clauses.specs.Growth.{Speaks}
-use Rattle.clauses.specs.Stored.{held, Sound}
+use Rattle.clauses.specs.Stored.{Sound}
 use Rattle.clauses.specs.declared.row.Row.{Row}
 use Rattle.clauses.specs.declared.store.Store.{Store}
 use Rattle.clauses.proofs.Keeping.{onto, held_first}

@@ -1,5 +1,5 @@
 -- What one clause of a store tells an engine.
-use Rattle.std.proofs.Common.{◌≡◌, ℕ, suc, ◌+◌, ◌-◌, ◌^◌, ◌<◌, ◌≤◌, Bool, true, List, [], ◌∷◌, ◌++◌, length, get_or, set, ℤ, pos, Some, None, Option, sym, refl, ap, ◌∙◌, subst, arith, w32, SFits, to_z, of_z}
+use Rattle.std.proofs.Common.{◌≡◌, ℕ, suc, ◌+◌, ◌-◌, ◌^◌, ◌<◌, ◌≤◌, Bool, true, List, ◌∷◌, length, get_or, set, ℤ, pos, Some, None, Option, refl, ap, ◌∙◌, subst, arith, w32, SFits, to_z, of_z}
 use Rattle.std.proofs.lemmas.Int.{to_z-of_z}
 use Rattle.std.proofs.lemmas.List.{get_or_at, length-append, length-take}
 use Rattle.text.specs.Literals.{Clause, variable_of, positive}
@@ -9,7 +9,6 @@ use Rattle.clauses.specs.Cells.{values_of, Placed, unset_count, AllSettled}
 use Rattle.clauses.specs.Rows.{row_at, span}
 use Rattle.clauses.specs.Stored.{held, Sound}
 use Rattle.clauses.specs.Growth.{Speaks}
-use Rattle.clauses.specs.declared.scan.Status.{Status}
 use Rattle.clauses.specs.declared.scan.Status.TheVariants.{Conflict, Forced, Other}
 use Rattle.clauses.specs.declared.store.Store.{Store}
 use Rattle.clauses.proofs.Theory.{reached_more, reached_unit, refuted_at, unset_means}

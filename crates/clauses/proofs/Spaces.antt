@@ -1,8 +1,7 @@
 -- How much of a store its live clauses need.
-use Rattle.std.proofs.Common.{◌≡◌, ℕ, zero, suc, ◌+◌, ◌-◌, ◌<◌, ◌≤◌, Bool, true, false, ◌&&◌, leb, List, [], ◌∷◌, ◌++◌, length, take, ℤ, sym, refl, ap, ◌∙◌, subst, le_of_suc-le-suc, add-one, arith}
-use Rattle.std.proofs.lemmas.List.{take_more, length-take, take_all}
+use Rattle.std.proofs.Common.{◌≡◌, ℕ, zero, suc, ◌+◌, ◌<◌, ◌≤◌, Bool, true, false, ◌&&◌, leb, List, [], ◌∷◌, ◌++◌, length, take, ℤ, sym, refl, ap, ◌∙◌, add-one, arith}
+use Rattle.std.proofs.lemmas.List.{take_more, length-take}
 use Rattle.std.proofs.lemmas.Bool.{leb-true, le-leb}
-use Rattle.clauses.specs.Propagation.{Held}
 use Rattle.clauses.specs.ClauseBase.{literal_count}
 use Rattle.clauses.specs.Rows.{no_row, row_at, span, held_in, Spans, Ordered}
 use Rattle.clauses.specs.Stored.{held, Sound}

@@ -1,8 +1,7 @@
 -- What the scan's answer means.
-use Rattle.std.proofs.Common.{◌≡◌, ℕ, suc, ◌+◌, ◌<◌, ◌≤◌, Bool, true, false, T, ◌⊎◌, List, [], ◌∷◌, ◌++◌, ℤ, pos, negsuc, Some, None, Option, sym, refl, ap, ◌∙◌, subst, inl, inr, arith}
+use Rattle.std.proofs.Common.{◌≡◌, suc, ◌≤◌, Bool, true, false, T, ◌⊎◌, [], ◌∷◌, ℤ, Some, None, Option, sym, refl, ap, inl, inr, arith}
 use Rattle.text.specs.Literals.{Clause}
-use Rattle.clauses.specs.Propagation.{Values, value, is_unset, is_false, is_true, all_false, satisfied, unset_in}
-use Rattle.clauses.specs.Propagation.{Unit', Settled}
+use Rattle.clauses.specs.Propagation.{Values, value, all_false, satisfied, unset_in}
 use Rattle.clauses.specs.Status.{status_at, status_from, Means}
 use Rattle.clauses.specs.declared.scan.Status.{Status}
 use Rattle.clauses.specs.declared.scan.Status.TheVariants.{Conflict, Forced, Other}

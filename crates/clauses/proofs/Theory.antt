@@ -1,6 +1,5 @@
 -- Unit propagation is sound and, at a fixpoint, complete. Any engine can use these.
-use Rattle.std.proofs.Common.{◌≡◌, ℕ, suc, ◌<◌, ◌≤◌, Bool, true, false, cond, not, ◌&&◌, ◌||◌, T, eqb, ◌⊎◌, List, [], ◌∷◌, ◌++◌, ℤ, pos, negsuc, Some, None, Option, sym, refl, ap, ◌∙◌, subst, inl, inr, arith, eqb→eq}
-use mathlib.Core.Path.{fun_ext}
+use Rattle.std.proofs.Common.{◌≡◌, ℕ, suc, Bool, true, false, cond, ◌||◌, T, eqb, List, [], ◌∷◌, ◌++◌, ℤ, pos, negsuc, Some, None, Option, sym, refl, ◌∙◌, subst, inl, inr, arith, eqb→eq}
 use Rattle.std.specs.List.{AllByRecursion}
 use Rattle.text.specs.Literals.{Clause, variable_of, positive}
 use Rattle.clauses.specs.Propagation.{Values, flip, value, is_unset, is_false, is_true, all_false, satisfied, unset_in, set_true}

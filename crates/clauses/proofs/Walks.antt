@@ -1,5 +1,5 @@
 -- The engine of events, step by step.
-use Rattle.std.proofs.Common.{◌≡◌, ℕ, zero, suc, ◌+◌, ◌-◌, ◌<◌, ◌≤◌, Bool, true, false, ◌⊎◌, List, length, get_or, ℤ, pos, Option, sym, refl, ap, ◌∙◌, subst, inl, inr, arith, below_more}
+use Rattle.std.proofs.Common.{◌≡◌, ℕ, ◌+◌, ◌-◌, ◌<◌, ◌≤◌, Bool, ◌⊎◌, List, length, get_or, ℤ, pos, Option, sym, ap, ◌∙◌, subst, inl, inr, arith, below_more}
 use Rattle.std.proofs.lemmas.Bool.{cases_eq}
 use Rattle.text.specs.Literals.{Clause}
 use Rattle.clauses.specs.Propagation.{Settled, Reached, Refuted}
@@ -12,7 +12,7 @@ use Rattle.clauses.specs.Events.{clause_at, Waiting, Examined, Listed, Pending, 
 use Rattle.clauses.specs.declared.store.Store.{Store}
 use Rattle.clauses.specs.declared.trail.Trail.{Trail}
 use Rattle.clauses.specs.declared.index.Index.{Index}
-use Rattle.clauses.proofs.Theory.{reached_none, reached_more, settled_refuted}
+use Rattle.clauses.proofs.Theory.{reached_more, settled_refuted}
 use Rattle.clauses.proofs.OneRow.{rows_settled}
 use Rattle.clauses.proofs.Hits.{against_code}
 use Rattle.clauses.proofs.Links.{on_none, on_step}

@@ -7,7 +7,7 @@
 -- cleared, with_added, with_deleted, with_trial: the meaning after a call
 -- value_in: the value that a variable has in an open trial
 -- fresh: the meaning of a new base with this room
-use Rattle.std.specs.Prelude.{ℕ, suc, ◌+◌, Bool, true, not, ◌&&◌, List, [], ◌∷◌, ◌++◌, length, Some, None, Option, ◌==◌, nat_eq, nat_le}
+use Rattle.std.specs.Prelude.{ℕ, suc, ◌+◌, Bool, true, not, ◌&&◌, List, [], ◌∷◌, ◌++◌, length, None, Option, ◌==◌, nat_eq, nat_le}
 use Rattle.text.specs.Lists.{keep, some}
 use Rattle.text.specs.Literals.{Clause, variable_of}
 use Rattle.clauses.specs.Propagation.{Held, Values}

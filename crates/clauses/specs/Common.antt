@@ -1,7 +1,7 @@
 -- What the part that every base holds means.
 -- trial_of: the trial at a phase, over these cells; room_of: the room that memory gives
 -- meaning_of: its meaning; Sane: its parts fit together; Steady: its memory is as long as before
-use Rattle.std.specs.Prelude.{◌≡◌, ℕ, ◌-◌, ◌^◌, ◌<◌, ◌≤◌, Bool, List, length, Option}
+use Rattle.std.specs.Prelude.{◌≡◌, ◌-◌, ◌^◌, ◌<◌, ◌≤◌, Bool, List, length, Option}
 use Rattle.clauses.specs.Cells.{values_of}
 use Rattle.clauses.specs.ClauseBase.{Meaning, Trial, idle, running, answered}
 use Rattle.clauses.specs.Stored.{held, Sound}

@@ -4,7 +4,7 @@ use Rattle.text.specs.Literals.{variable_of, positive}
 use Rattle.clauses.specs.Propagation.{Values}
 use Rattle.clauses.specs.Cells.{values_of}
 use Rattle.clauses.specs.Counting.{Tally, non_false, Gap}
-use Rattle.clauses.specs.Events.{clause_at, Starting, Walk}
+use Rattle.clauses.specs.Events.{clause_at, Starting}
 use Rattle.clauses.specs.declared.store.Store.{Store}
 use Rattle.clauses.specs.declared.trail.Trail.{Trail}
 use Rattle.clauses.specs.declared.index.Index.{Index}

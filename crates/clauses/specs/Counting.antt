@@ -3,7 +3,7 @@
 -- hits, non_false: how many literals of a clause have a code, are not false
 -- Gives: the trail's literal at q gives the variable v the value b
 -- Gap: what has a value in g has it in f too, or from the trail at low or later
-use Rattle.std.specs.Prelude.{◌≡◌, ℕ, suc, ◌+◌, ◌<◌, ◌≤◌, Bool, true, false, not, ◌⊎◌, List, length, ℤ, pos, Some, None, Option, nat_eq, slice_index, slice_index_or}
+use Rattle.std.specs.Prelude.{◌≡◌, ℕ, suc, ◌<◌, ◌≤◌, Bool, not, ◌⊎◌, List, pos, Some, nat_eq, slice_index, slice_index_or}
 use Rattle.text.specs.Lists.{how_many}
 use Rattle.text.specs.Literals.{Clause, variable_of, positive}
 use Rattle.clauses.specs.Propagation.{Values, value, is_false}

@@ -1,7 +1,7 @@
 -- What every engine keeps.
 -- Advanced: a conflict was found, or unit steps led from the values xs to ys
 -- Ready: the store has no gaps, each variable has a cell, and the trail has room for each that is unset
-use Rattle.std.specs.Prelude.{ℕ, ◌+◌, ◌-◌, ◌≤◌, Bool, true, false, List, length, Option}
+use Rattle.std.specs.Prelude.{◌+◌, ◌-◌, ◌≤◌, Bool, true, false, List, length, Option}
 use Rattle.clauses.specs.Propagation.{Held, Refuted, Reached}
 use Rattle.clauses.specs.Cells.{values_of, unset_count}
 use Rattle.clauses.specs.Rows.{Named, Dense}

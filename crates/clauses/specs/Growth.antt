@@ -1,7 +1,7 @@
 -- What a store holds after an addition, step by step.
 -- Speaks: each literal of the clause speaks of a variable
 -- Copying, Copied: literals stand behind those in use; Sealed: and are a clause; Pushed: under the next number
-use Rattle.std.specs.Prelude.{◌≡◌, ℕ, ◌+◌, ◌-◌, ◌<◌, ◌≤◌, true, List, [], ◌∷◌, ◌++◌, length, take, drop, ℤ, pos, slice_index_or, slice_set}
+use Rattle.std.specs.Prelude.{◌≡◌, ℕ, ◌+◌, ◌-◌, ◌<◌, true, [], ◌∷◌, ◌++◌, length, take, drop, pos, slice_index_or, slice_set}
 use Rattle.text.specs.Literals.{Clause, variable_of}
 use Rattle.clauses.specs.Stored.{held, Sound, Kept}
 use Rattle.clauses.specs.declared.store.Store.{Store}

@@ -4,7 +4,7 @@
 -- Rising: the numbers rise; Under: they are below a number
 -- Named: each literal in use speaks of a variable, which there then is
 -- Dense: each row is live
-use Rattle.std.specs.Prelude.{◌≡◌, ℕ, ◌+◌, ◌-◌, ◌<◌, ◌≤◌, true, false, List, [], ◌∷◌, take, drop, ℤ, pos, slice_index_or}
+use Rattle.std.specs.Prelude.{◌≡◌, ℕ, ◌+◌, ◌-◌, ◌<◌, ◌≤◌, true, false, List, take, drop, ℤ, pos, slice_index_or}
 use Rattle.text.specs.Lists.{each, keep}
 use Rattle.text.specs.Literals.{Clause, variable_of}
 use Rattle.clauses.specs.Propagation.{Held}

@@ -1,7 +1,7 @@
 -- What the values say of a clause: a scan from its first literal.
 -- status_at: one literal: its value, the unset literal found so far, and what the rest then gives
 -- status_from: the whole scan; Means: what each answer says of the clause
-use Rattle.std.specs.Prelude.{Bool, true, false, T, List, [], ◌∷◌, ℤ, Some, None, Option}
+use Rattle.std.specs.Prelude.{Bool, true, false, T, [], ◌∷◌, ℤ, Some, None, Option}
 use Rattle.text.specs.Literals.{Clause}
 use Rattle.clauses.specs.Propagation.{Values, value, all_false, Unit', Settled}
 use Rattle.clauses.specs.declared.scan.Status.{Status}

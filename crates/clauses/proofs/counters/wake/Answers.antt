@@ -1,4 +1,4 @@
-use Rattle.std.proofs.Common.{◌≡◌, ◌-◌, ◌<◌, ◌≤◌, length, get_or, set, pos, sym, refl, ap, ◌∙◌, arith, w32, SFits, rules}
+use Rattle.std.proofs.Common.{◌≡◌, ◌-◌, ◌<◌, ◌≤◌, length, get_or, set, pos, refl, ap, ◌∙◌, arith, w32, SFits, rules}
 use Rattle.std.proofs.lemmas.List.{get_or-set_same}
 use Rattle.std.proofs.lemmas.Int.{to_z-of_z}
 use Rattle.clauses.specs.Codes.{code_against}
@@ -10,8 +10,8 @@ use Rattle.clauses.proofs.counters.wake.Goals as goal
 pub loop-link-init : goal.loop-link-init
 loop-link-init c =
     let fits : SFits w32 (get_or c.args.trail.now.literals.now c.args.head (pos 0)) = search rules in
-    let is : c.code-against.result ≡ code_against (get_or c.args.trail.now.literals.now c.args.head (pos 0)) = c.code-against.ensures.value ∙ ap code_against (to_z-of_z w32 _ fits) in
-    let cl : c.code-against.result < c.args.index.now.lists = search rules in (
+    let is : c.code_against.result ≡ code_against (get_or c.args.trail.now.literals.now c.args.head (pos 0)) = c.code_against.ensures.value ∙ ap code_against (to_z-of_z w32 _ fits) in
+    let cl : c.code_against.result < c.args.index.now.lists = search rules in (
       record {
         reached = reached_none _ _;
         ready = c.requires.ready;
@@ -28,8 +28,8 @@ loop-link-preserved-then-open-ge2 c =
     let w = c.loop-link.invariant in
     let k = get_or c.args.index.now.owners.now (c.loop-link.link - 1) 0 in
     let kl : k < length c.loop-link.left = omega (arith, c.requires.indexed.owned (c.loop-link.link - 1) (omega (arith, w.0.within))) in
-    let t = telling_more c.args.store.now c.args.index.now c.loop-link.values c.loop-link.left c.loop-link.trail _ c.loop-link.link k c.saturating-sub-open.result (omega arith) refl kl c.saturating-sub-open.ensures w.1 in
-    let two : 2 ≤ get_or (set c.loop-link.left k c.saturating-sub-open.result) k 0 = rw (get_or-set_same c.loop-link.left k c.saturating-sub-open.result 0 kl) c.if-open-ge2.true in
+    let t = telling_more c.args.store.now c.args.index.now c.loop-link.values c.loop-link.left c.loop-link.trail _ c.loop-link.link k c.saturating_sub-open.result (omega arith) refl kl c.saturating_sub-open.ensures w.1 in
+    let two : 2 ≤ get_or (set c.loop-link.left k c.saturating_sub-open.result) k 0 = rw (get_or-set_same c.loop-link.left k c.saturating_sub-open.result 0 kl) c.if-open-ge2.true in
     (walk_skip c.args.store.now c.args.index.now c.args.values.now c.loop-link.values _ c.args.trail.now c.loop-link.trail _ c.loop-link.link k c.requires.fit.linked (omega arith) refl two t w.0, t)
 
 pub loop-link-preserved : goal.loop-link-preserved
@@ -38,7 +38,7 @@ loop-link-preserved c =
     let e = c.if-examine.ensures in
     let k = get_or c.args.index.now.owners.now (c.loop-link.link - 1) 0 in
     let kl : k < length c.loop-link.left = omega (arith, c.requires.indexed.owned (c.loop-link.link - 1) (omega (arith, w.0.within))) in
-    let t = telling_more c.args.store.now c.args.index.now c.loop-link.values c.loop-link.left c.loop-link.trail _ c.loop-link.link k c.saturating-sub-open.result (omega arith) refl kl c.saturating-sub-open.ensures w.1 in
+    let t = telling_more c.args.store.now c.args.index.now c.loop-link.values c.loop-link.left c.loop-link.trail _ c.loop-link.link k c.saturating_sub-open.result (omega arith) refl kl c.saturating_sub-open.ensures w.1 in
     (walk_more _ _ _ _ _ _ _ _ _ _ _ c.requires.fit.linked (omega arith) refl w.0 e.goes e.ready e.room e.looked, telling_look c.args.store.now c.args.index.now k _ _ _ _ _ _ _ w.0.ahead e.goes e.looked t)
 
 pub returns : goal.returns

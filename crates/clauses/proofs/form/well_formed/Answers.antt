@@ -1,4 +1,4 @@
-use Rattle.std.proofs.Common.{◌≡◌, ◌+◌, ◌-◌, Bool, true, false, eqb, length, get_or, take, drop, ℤ, pos, sym, ap, ◌∙◌, subst, inl, inr, arith, w32, SFits, rules}
+use Rattle.std.proofs.Common.{◌≡◌, ◌+◌, ◌-◌, true, false, eqb, length, get_or, take, drop, pos, sym, ap, ◌∙◌, inl, inr, arith, w32, SFits, rules}
 use Rattle.std.proofs.lemmas.List.{take_rest}
 use Rattle.std.proofs.lemmas.Int.{to_z-of_z}
 use Rattle.text.specs.Lists.{some}

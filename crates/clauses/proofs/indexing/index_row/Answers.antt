@@ -11,7 +11,7 @@ enter-requires c =
     let n : length c.clause-literals.result.now ≡ length (clause_at s c.args.k) = ap length c.clause-literals.ensures in
     let h : i < length (clause_at s c.args.k) = omega arith in
     let fits : SFits w32 (get_or c.clause-literals.result.now i (pos 0)) = search rules in
-    let q = read_code c.clause-literals.result.now (clause_at s c.args.k) i c.code-of.result fits c.clause-literals.ensures c.code-of.ensures.value in
+    let q = read_code c.clause-literals.result.now (clause_at s c.args.k) i c.code_of.result fits c.clause-literals.ensures c.code_of.ensures.value in
     let r = entry_fits s c.args.index.now c.loop-literal.index c.args.k i c.requires.k h e in
     record { linked = e.fit.linked; code = rw q (code_fits s c.loop-literal.index c.args.k i e.fit c.requires.k h); next = r.0; owners = r.1; small = r.2 }
 
@@ -21,8 +21,8 @@ loop-literal-preserved c =
     let i = c.loop-literal.literal-index in
     let n : length c.clause-literals.result.now ≡ length (clause_at s c.args.k) = ap length c.clause-literals.ensures in
     let fits : SFits w32 (get_or c.clause-literals.result.now i (pos 0)) = search rules in
-    let q = read_code c.clause-literals.result.now (clause_at s c.args.k) i c.code-of.result fits c.clause-literals.ensures c.code-of.ensures.value in
-    entering_more s c.args.index.now c.loop-literal.index c.enter.new.self c.args.k i c.code-of.result c.requires.k (omega arith) q c.enter.ensures.linked c.enter.ensures.used c.enter.ensures.lists c.enter.ensures.heads c.enter.ensures.next c.enter.ensures.owners c.loop-literal.invariant
+    let q = read_code c.clause-literals.result.now (clause_at s c.args.k) i c.code_of.result fits c.clause-literals.ensures c.code_of.ensures.value in
+    entering_more s c.args.index.now c.loop-literal.index c.enter.new.self c.args.k i c.code_of.result c.requires.k (omega arith) q c.enter.ensures.linked c.enter.ensures.used c.enter.ensures.lists c.enter.ensures.heads c.enter.ensures.next c.enter.ensures.owners c.loop-literal.invariant
 
 pub returns : goal.returns
 returns c =

@@ -5,8 +5,8 @@ use Rattle.clauses.proofs.Advance.{forced-placed, forced-step, forced-fits, forc
 use Rattle.clauses.proofs.Examining.{other-examined, forced-examined}
 use Rattle.clauses.proofs.look.examine.Goals as goal
 
-pub status-of-requires : goal.status-of-requires
-status-of-requires c = row-placed c.args.store.now c.args.k _ c.clause.ensures c.requires.k c.requires.ready.sound _ c.requires.ready.enough
+pub status_of-requires : goal.status_of-requires
+status_of-requires c = row-placed c.args.store.now c.args.k _ c.clause.ensures c.requires.k c.requires.ready.sound _ c.requires.ready.enough
 
 pub returns-in-Conflict : goal.returns-in-Conflict
 returns-in-Conflict c =

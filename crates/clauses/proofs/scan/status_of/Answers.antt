@@ -1,21 +1,19 @@
-use Rattle.std.proofs.Common.{◌≡◌, true, false, get_or, ℤ, pos, Some, None, w32, SFits, to_z, of_z, rules}
-use Rattle.clauses.specs.Cells.{values_of}
-use Rattle.clauses.specs.Propagation.{value}
+use Rattle.std.proofs.Common.{rules}
 use Rattle.clauses.proofs.Scanning.{scan-true, scan-false, scan-second, scan-first, scan-none, scan-one}
 use Rattle.clauses.proofs.scan.status_of.Goals as goal
-use Rattle.clauses.proofs.scan.status_of.Goals.{in-Some-false, in-None+else-is-some}
+use Rattle.clauses.proofs.scan.status_of.Goals.{in-Some-false, in-None+else-is_some}
 
 pub returns-in-Some-true : goal.returns-in-Some-true
 returns-in-Some-true c =
     let e = c.in-Some-true.ensures in
     scan-true _ _ _ _ _ c.loop-literal.invariant c.loop-literal-test.true (search rules) (cc)
 
-pub returns-then-is-some : goal.returns-then-is-some
-returns-then-is-some c =
-    scan-second _ _ _ _ _ c.loop-literal.invariant c.if-is-some.ensures c.loop-literal-test.true (search rules) c.in-None.ensures
+pub returns-then-is_some : goal.returns-then-is_some
+returns-then-is_some c =
+    scan-second _ _ _ _ _ c.loop-literal.invariant c.if-is_some.ensures c.loop-literal-test.true (search rules) c.in-None.ensures
 
 pub loop-literal-preserved : goal.loop-literal-preserved
-loop-literal-preserved c = elim c.match-read.branch [ in-Some-false w ↦ let e = w.in-Some-false.ensures in scan-false _ _ _ _ _ c.loop-literal.invariant _ w.found-is c.loop-literal-test.true (search rules) (cc) | in-None+else-is-some w ↦ scan-first _ _ _ _ _ c.loop-literal.invariant _ w.if-is-some.ensures w.found-is c.loop-literal-test.true (search rules) w.in-None.ensures ]
+loop-literal-preserved c = elim c.match-read.branch [ in-Some-false w ↦ let e = w.in-Some-false.ensures in scan-false _ _ _ _ _ c.loop-literal.invariant _ w.found-is c.loop-literal-test.true (search rules) (cc) | in-None+else-is_some w ↦ scan-first _ _ _ _ _ c.loop-literal.invariant _ w.if-is_some.ensures w.found-is c.loop-literal-test.true (search rules) w.in-None.ensures ]
 
 pub returns-in-Some : goal.returns-in-Some
 returns-in-Some c = scan-one _ _ _ _ _ c.loop-literal.invariant _ c.loop-literal-test.false c.in-Some.is (search rules)

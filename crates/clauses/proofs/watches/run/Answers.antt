@@ -1,4 +1,4 @@
-use Rattle.std.proofs.Common.{◌∙◌, arith}
+use Rattle.std.proofs.Common.{◌∙◌}
 use Rattle.clauses.specs.Stored.{held}
 use Rattle.clauses.proofs.Advance.{decided_before}
 use Rattle.clauses.proofs.Guarding.{same_of, same_more}

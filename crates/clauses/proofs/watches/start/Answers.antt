@@ -1,4 +1,4 @@
-use Rattle.std.proofs.Common.{refl, arith}
+use Rattle.std.proofs.Common.{refl}
 use Rattle.clauses.proofs.Guarding.{begun_none, begun_more}
 use Rattle.clauses.proofs.watches.start.Goals as goal
 

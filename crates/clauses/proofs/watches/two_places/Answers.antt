@@ -1,4 +1,4 @@
 use Rattle.clauses.proofs.watches.two_places.Goals as goal
 
-pub returns-in-err-second : goal.returns-in-err-second
-returns-in-err-second c = rw c.from-residual-in-err-second.ensures (c.in-ok-first.first, c.in-err-second.ensures.found)
+pub returns-in_err-second : goal.returns-in_err-second
+returns-in_err-second c = rw c.from_residual-in_err-second.ensures (c.in_ok-first.first, c.in_err-second.ensures.found)

@@ -1,4 +1,4 @@
-use Rattle.std.proofs.Common.{◌≡◌, ℕ, ◌+◌, ◌*◌, ◌^◌, ◌<◌, length, get_or, set, Some, refl, ap, subst, ⊎_elim, arith, rules}
+use Rattle.std.proofs.Common.{◌+◌, ◌*◌, ◌^◌, ◌<◌, length, get_or, set, Some, refl, subst, ⊎_elim, arith, rules}
 use Rattle.std.proofs.lemmas.List.{length-set}
 use Rattle.text.specs.Literals.{Clause}
 use Rattle.clauses.specs.Events.{clause_at}
@@ -9,8 +9,8 @@ use Rattle.clauses.proofs.Spots.{spots-room}
 use Rattle.clauses.proofs.Guarding.{first-spots, second-spots, visited-pair, visited_examine, same_none}
 use Rattle.clauses.proofs.watches.visit.Goals as goal
 
-pub two-places-requires : goal.two-places-requires
-two-places-requires c = row-placed c.args.store.now c.args.k _ c.clause.ensures c.requires.k c.requires.ready.sound _ c.requires.ready.enough
+pub two_places-requires : goal.two_places-requires
+two_places-requires c = row-placed c.args.store.now c.args.k _ c.clause.ensures c.requires.k c.requires.ready.sound _ c.requires.ready.enough
 
 pub enlist-requires : goal.enlist-requires
 enlist-requires c =
@@ -23,8 +23,8 @@ enlist-requires c =
     let t : TwoOpen xs (clause_at s k) (get_or w (2 * k) 0) (get_or w (2 * k + 1) 0) (Some (c.in-Some.first, c.in-Some.second)) = subst (λ (d : Clause). TwoOpen xs d (get_or w (2 * k) 0) (get_or w (2 * k + 1) 0) (Some (c.in-Some.first, c.in-Some.second))) c.clause.ensures c.in-Some.ensures in
     record { k = c.requires.k; few = c.requires.few; sound = ok; place = t.0.first; places = c.requires.places; guards = c.requires.guards; room = λ a b. spots-room s k c.in-Some.first c.args.index.now.used xs w ok c.requires.k t.0.first t.0.first_open c.requires.spots (⊎_elim a b) }
 
-pub overflow-cast-places : goal.overflow-cast-places
-overflow-cast-places c =
+pub overflow_cast-places : goal.overflow_cast-places
+overflow_cast-places c =
     let e = c.in-Some.ensures in
     let n : length c.clause.result.now < 2 ^ 32 = row-short c.args.store.now c.args.k _ c.clause.ensures c.requires.k c.requires.ready.sound in
     let l : c.in-Some.first < length c.clause.result.now = e.0.first in
@@ -42,8 +42,8 @@ enlist-requires-in-Some c =
     let f : Spotted s c.enlist.new.index.used xs (set w (2 * k) c.in-Some.first) = first-spots s k c.in-Some.first c.in-Some.second (get_or w (2 * k) 0) (get_or w (2 * k + 1) 0) w c.args.index.now c.enlist.new.index c.enlist.new.index xs c.args.trail.now ok c.requires.k wide t.0 c.enlist.ensures refl t.1 c.requires.spots in
     record { k = c.requires.k; few = c.requires.few; sound = ok; place = t.0.second; places = simp length-set c.requires.places; guards = c.enlist.ensures.guards; room = λ a b. spots-room s k c.in-Some.second c.enlist.new.index.used xs (set w (2 * k) c.in-Some.first) ok c.requires.k t.0.second t.0.second_open f (⊎_elim a b) }
 
-pub overflow-cast-places-in-Some : goal.overflow-cast-places-in-Some
-overflow-cast-places-in-Some c =
+pub overflow_cast-places-in-Some : goal.overflow_cast-places-in-Some
+overflow_cast-places-in-Some c =
     let e = c.in-Some.ensures in
     let n : length c.clause.result.now < 2 ^ 32 = row-short c.args.store.now c.args.k _ c.clause.ensures c.requires.k c.requires.ready.sound in
     let l : c.in-Some.second < length c.clause.result.now = e.0.second in

@@ -12,9 +12,9 @@ pub loop-link-init : goal.loop-link-init
 loop-link-init c =
     let t = c.args.trail.now in
     let fits : SFits w32 (get_or t.literals.now c.args.head (pos 0)) = search rules in
-    let is : c.code-against.result ≡ code_against (get_or t.literals.now c.args.head (pos 0)) = c.code-against.ensures.value ∙ ap code_against (to_z-of_z w32 _ fits) in
-    let b : c.code-against.result ≤ 2 * variable_of (get_or t.literals.now c.args.head (pos 0)) + 1 = rw (to_z-of_z w32 _ fits) at c.code-against.ensures.bound in
-    let cl : c.code-against.result < c.args.index.now.lists = omega (arith, b, c.requires.ready.named c.args.head c.requires.head, c.requires.watchful.guards.heads) in
+    let is : c.code_against.result ≡ code_against (get_or t.literals.now c.args.head (pos 0)) = c.code_against.ensures.value ∙ ap code_against (to_z-of_z w32 _ fits) in
+    let b : c.code_against.result ≤ 2 * variable_of (get_or t.literals.now c.args.head (pos 0)) + 1 = rw (to_z-of_z w32 _ fits) at c.code_against.ensures.bound in
+    let cl : c.code_against.result < c.args.index.now.lists = omega (arith, b, c.requires.ready.named c.args.head c.requires.head, c.requires.watchful.guards.heads) in
     (reached_none _ _, c.requires.ready, watchful_none c.args.store.now c.args.index.now c.args.places.now c.args.values.now t c.args.head _ c.requires.head cl is c.requires.watchful, same_none _, refl)
 
 pub loop-link-preserved : goal.loop-link-preserved

@@ -1,11 +1,11 @@
-use Rattle.std.proofs.Common.{◌≡◌, sym, refl, ap, ◌∙◌, arith}
+use Rattle.std.proofs.Common.{sym, refl, arith}
 use Rattle.text.proofs.Members.{holds_from}
 use Rattle.clauses.proofs.Forms.{formed_speaks}
 use Rattle.clauses.proofs.common.Common.add.Goals as goal
 
 pub push-requires : goal.push-requires
 push-requires c =
-    let e = c.if-not-make-room.ensures in
+    let e = c.if-not-make_room.ensures in
     let b = e.behind refl in
     record {
       sound = e.sound;
@@ -13,5 +13,5 @@ push-requires c =
       literals = b.1;
       small = omega (arith, b.1, e.kept.literals, c.requires.small);
       number = omega (arith, e.next);
-      speaks = rw e.kept.variables (formed_speaks c.args.self.now.store.variables c.args.clause.now (holds_from (sym c.if-not-well-formed.ensures)));
+      speaks = rw e.kept.variables (formed_speaks c.args.self.now.store.variables c.args.clause.now (holds_from (sym c.if-not-well_formed.ensures)));
     }

@@ -1,4 +1,4 @@
-use Rattle.std.proofs.Common.{◌≡◌, refl}
+use Rattle.std.proofs.Common.{refl}
 use Rattle.clauses.specs.Common.{Steady}
 use Rattle.clauses.specs.declared.phase.Phase.TheVariants.{Answered}
 use Rattle.clauses.proofs.Commons.{sane_store, said-unit, said-conflict, said-useless}
@@ -10,7 +10,7 @@ returns-in-Unit c =
     let f = c.in-Some.ensures in
     let e = c.in-Unit.ensures in
     let s : Steady a (record { store = a.store; values = c.follow.new.values; trail = a.trail; phase = a.phase }) = record { rows = refl; literals = refl; cells = e.cells; trail = refl } in
-    let p = c.is-open.ensures.0 c.if-not-is-open.false in
+    let p = c.is_open.ensures.0 c.if-not-is_open.false in
     record { call = said-unit a _ c.args.number c.in-Some.k c.requires p f.0 f.1 f.2 refl s p e.says; sane = sane_store a _ c.requires s c.requires.sound refl; steady = s }
 
 pub returns-in-Conflict : goal.returns-in-Conflict
@@ -19,7 +19,7 @@ returns-in-Conflict c =
     let f = c.in-Some.ensures in
     let e = c.in-Conflict.ensures in
     let s : Steady a (record { store = a.store; values = c.follow.new.values; trail = a.trail; phase = Answered }) = record { rows = refl; literals = refl; cells = e.cells; trail = refl } in
-    let p = c.is-open.ensures.0 c.if-not-is-open.false in
+    let p = c.is_open.ensures.0 c.if-not-is_open.false in
     record { call = said-conflict a _ c.args.number c.in-Some.k c.requires p f.0 f.1 f.2 refl s refl e.says; sane = sane_store a _ c.requires s c.requires.sound refl; steady = s }
 
 pub returns-in-Useless : goal.returns-in-Useless
@@ -28,5 +28,5 @@ returns-in-Useless c =
     let f = c.in-Some.ensures in
     let e = c.in-Useless.ensures in
     let s : Steady a (record { store = a.store; values = c.follow.new.values; trail = a.trail; phase = a.phase }) = record { rows = refl; literals = refl; cells = e.cells; trail = refl } in
-    let p = c.is-open.ensures.0 c.if-not-is-open.false in
+    let p = c.is_open.ensures.0 c.if-not-is_open.false in
     record { call = said-useless a _ c.args.number c.in-Some.k c.requires p f.0 f.1 f.2 refl s p e.says; sane = sane_store a _ c.requires s c.requires.sound refl; steady = s }

@@ -1,7 +1,6 @@
-use Rattle.std.proofs.Common.{◌≡◌, ◌-◌, ◌<◌, length, get_or, drop, pos, sym, refl, ap, ◌∙◌, arith, w32, SFits, rules}
+use Rattle.std.proofs.Common.{◌-◌, length, get_or, pos, sym, refl, ap, ◌∙◌, arith, w32, SFits, rules}
 use Rattle.std.proofs.lemmas.Int.{to_z-of_z}
 use Rattle.std.proofs.lemmas.List.{length-set, drop_all}
-use Rattle.text.specs.Literals.{variable_of}
 use Rattle.clauses.specs.Propagation.{denied}
 use Rattle.clauses.proofs.Commons.{deny_more, denied_all}
 use Rattle.clauses.proofs.common.Values.deny_all.Goals as goal

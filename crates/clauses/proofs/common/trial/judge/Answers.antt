@@ -3,8 +3,8 @@ use Rattle.clauses.proofs.OneRow.{row-placed, row-literal}
 use Rattle.clauses.proofs.Commons.{judged-conflict, judged-forced, judged-other}
 use Rattle.clauses.proofs.common.trial.judge.Goals as goal
 
-pub status-of-requires : goal.status-of-requires
-status-of-requires c = row-placed c.args.store.now c.args.k _ c.clause.ensures c.requires.k c.requires.sound _ c.requires.placed
+pub status_of-requires : goal.status_of-requires
+status_of-requires c = row-placed c.args.store.now c.args.k _ c.clause.ensures c.requires.k c.requires.sound _ c.requires.placed
 
 pub assign-requires : goal.assign-requires
 assign-requires c = omega (arith, row-literal c.args.store.now c.args.k _ c.clause.ensures c.requires.k c.requires.sound _ c.in-Forced.literal (search rules) c.in-Forced.ensures, c.requires.placed)

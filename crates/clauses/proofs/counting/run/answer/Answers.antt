@@ -7,8 +7,8 @@ propagate-requires c =
     let e = c.close.ensures in
     let ok = c.requires.sane in
     record {
-      fit = c.index-all.ensures.fit;
-      indexed = c.index-all.ensures.indexed;
+      fit = c.index_all.ensures.fit;
+      indexed = c.index_all.ensures.indexed;
       ready = record { sound = e.sound; dense = e.dense; enough = rw e.kept.variables ok.placed; room = omega (arith, unset_most c.args.common.now.values.cells.now, ok.lasting); named = named_none c.args.common.now.trail.literals.now c.close.new.self.variables };
       left = omega (arith, e.sound.counted, e.kept.rows, c.requires.left);
       empty = refl;

@@ -1,4 +1,4 @@
-use Rattle.std.proofs.Common.{◌≡◌, ◌+◌, length, get_or, pos, refl, ◌∙◌, append-nil, add-zero, arith, w32, SFits, rules}
+use Rattle.std.proofs.Common.{◌≡◌, length, get_or, pos, ◌∙◌, append-nil, add-zero, arith, w32, SFits, rules}
 use Rattle.std.proofs.lemmas.List.{length-set}
 use Rattle.std.proofs.lemmas.Int.{to_z-of_z}
 use Rattle.clauses.proofs.Growing.{copied_more, rest_more, copying_none}

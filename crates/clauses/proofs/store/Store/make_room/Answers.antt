@@ -1,5 +1,5 @@
 use Rattle.clauses.proofs.Spaces.{spacious}
 use Rattle.clauses.proofs.store.Store.make_room.Goals as goal
 
-pub returns-then-has-room : goal.returns-then-has-room
-returns-then-has-room c = spacious c.args.self.now c.args.len c.requires c.if-has-room.ensures
+pub returns-then-has_room : goal.returns-then-has_room
+returns-then-has_room c = spacious c.args.self.now c.args.len c.requires c.if-has_room.ensures

@@ -1,4 +1,4 @@
-use Rattle.std.proofs.Common.{refl, arith}
+use Rattle.std.proofs.Common.{arith}
 use Rattle.clauses.proofs.Memory.{unset_most, named_none}
 use Rattle.clauses.proofs.watched.run.answer.Goals as goal
 
