@@ -23,7 +23,7 @@ mod literals;
 
 /// Hands the plan clauses to a sink as long as it takes them, and says whether it took them all.
 pub fn feed_plan_clauses<S: ClauseSink>(problem: &Problem<'_, '_, '_>, sink: &mut S) -> bool
-    ensures { Fed goes stops (plan_clauses (problem_of problem.now)) result sink.old sink.new }
+    ensures { Fed S.goes S.stops (plan_clauses (problem_of problem.now)) result sink.old sink.new }
 {
     let mut memory = [0; PACKAGES_MOST];
     let mut clause = Rows::new(&mut memory, 0);
@@ -45,7 +45,7 @@ fn feed_stanzas<S: ClauseSink>(
     sink: &mut S,
 ) -> bool
     requires { 256 ≤ room clause.old }
-    ensures fed { Fed goes stops (each_all (of_stanza (problem_of problem.now)) (stanzas (problem_of problem.now))) result sink.old sink.new }
+    ensures fed { Fed S.goes S.stops (each_all (of_stanza (problem_of problem.now)) (stanzas (problem_of problem.now))) result sink.old sink.new }
     ensures room { room clause.new ≡ room clause.old }
 {
     let count = problem.len();
@@ -66,7 +66,7 @@ fn feed_stanza<S: ClauseSink>(
 ) -> bool
     requires place { place < problem.now.count }
     requires fits { 256 ≤ room clause.old }
-    ensures fed { Fed goes stops (of_stanza (problem_of problem.now) (stanza_at problem.now place)) result sink.old sink.new }
+    ensures fed { Fed S.goes S.stops (of_stanza (problem_of problem.now) (stanza_at problem.now place)) result sink.old sink.new }
     ensures room { room clause.new ≡ room clause.old }
 {
     let text = problem.text();
@@ -94,7 +94,7 @@ fn feed_installs<S: ClauseSink>(
 ) -> bool
     requires few { length packages.now ≤ 256 }
     requires fits { 256 ≤ room clause.old }
-    ensures fed { Fed goes stops (each_all (λ c. each lit (passing (row_satisfies_one text.now (c ∷ [])) 0 packages.now) ∷ []) items.now) result sink.old sink.new }
+    ensures fed { Fed S.goes S.stops (each_all (λ c. each lit (passing (row_satisfies_one text.now (c ∷ [])) 0 packages.now) ∷ []) items.now) result sink.old sink.new }
     ensures room { room clause.new ≡ room clause.old }
 {
     for item in items {
@@ -115,7 +115,7 @@ fn feed_install<S: ClauseSink>(
 ) -> bool
     requires few { length packages.now ≤ 256 }
     requires fits { 256 ≤ room clause.old }
-    ensures fed { Fed goes stops (each lit (passing (row_satisfies_one text.now (item.now ∷ [])) 0 packages.now) ∷ []) result sink.old sink.new }
+    ensures fed { Fed S.goes S.stops (each lit (passing (row_satisfies_one text.now (item.now ∷ [])) 0 packages.now) ∷ []) result sink.old sink.new }
     ensures room { room clause.new ≡ room clause.old }
 {
     clause.clear();

@@ -25,7 +25,7 @@ fn feed_conjunct<S: ClauseSink>(
     requires place { place < length packages.now }
     requires few { length packages.now ≤ 256 }
     requires fits { 256 ≤ room clause.old }
-    ensures fed { Fed goes stops (needs (suc place) (passing (row_satisfies_one text.now group.now) 0 packages.now)) result sink.old sink.new }
+    ensures fed { Fed S.goes S.stops (needs (suc place) (passing (row_satisfies_one text.now group.now) 0 packages.now)) result sink.old sink.new }
     ensures room { room clause.new ≡ room clause.old }
 {
     if satisfies_one(text, group, &packages[place]) {
@@ -64,7 +64,7 @@ pub(super) fn feed_depends<S: ClauseSink>(
     requires place { place < length packages.now }
     requires few { length packages.now ≤ 256 }
     requires fits { 256 ≤ room clause.old }
-    ensures fed { Fed goes stops (each_all (λ cs. needs (suc place) (passing (row_satisfies_one text.now cs) 0 packages.now)) (conjuncts depends.now)) result sink.old sink.new }
+    ensures fed { Fed S.goes S.stops (each_all (λ cs. needs (suc place) (passing (row_satisfies_one text.now cs) 0 packages.now)) (conjuncts depends.now)) result sink.old sink.new }
     ensures room { room clause.new ≡ room clause.old }
 {
     let mut start = 0;

@@ -15,7 +15,7 @@ use text::rows::Rows;
 fn feed_alone<S: ClauseSink>(place: usize, clause: &mut Rows<'_, i32>, sink: &mut S) -> bool
     requires place { place < 256 }
     requires fits { 256 ≤ room clause.old }
-    ensures fed { Fed goes stops (denials None (suc place ∷ [])) result sink.old sink.new }
+    ensures fed { Fed S.goes S.stops (denials None (suc place ∷ [])) result sink.old sink.new }
     ensures room { room clause.new ≡ room clause.old }
 {
     clause.clear();
@@ -33,7 +33,7 @@ fn feed_pair<S: ClauseSink>(
     requires other { other < 256 }
     requires place { place < 256 }
     requires fits { 256 ≤ room clause.old }
-    ensures fed { Fed goes stops (denials (Some other) (suc place ∷ [])) result sink.old sink.new }
+    ensures fed { Fed S.goes S.stops (denials (Some other) (suc place ∷ [])) result sink.old sink.new }
     ensures room { room clause.new ≡ room clause.old }
 {
     if other == place {
@@ -57,7 +57,7 @@ fn feed_denials<S: ClauseSink>(
     requires beside { IfSome beside (λ i. i < 256) }
     requires few { length packages.now ≤ 256 }
     requires fits { 256 ≤ room clause.old }
-    ensures fed { Fed goes stops (denials beside (passing (row_satisfies text.now constraint.now) 0 packages.now)) result sink.old sink.new }
+    ensures fed { Fed S.goes S.stops (denials beside (passing (row_satisfies text.now constraint.now) 0 packages.now)) result sink.old sink.new }
     ensures room { room clause.new ≡ room clause.old }
 {
     for (i, row) in packages.iter().enumerate() {
@@ -78,7 +78,7 @@ fn feed_denial<S: ClauseSink>(
     requires beside { IfSome beside (λ i. i < 256) }
     requires place { place < 256 }
     requires fits { 256 ≤ room clause.old }
-    ensures fed { Fed goes stops (denials beside (suc place ∷ [])) result sink.old sink.new }
+    ensures fed { Fed S.goes S.stops (denials beside (suc place ∷ [])) result sink.old sink.new }
     ensures room { room clause.new ≡ room clause.old }
 {
     match beside {
@@ -99,7 +99,7 @@ pub(super) fn feed_denied<S: ClauseSink>(
     requires beside { IfSome beside (λ i. i < 256) }
     requires few { length packages.now ≤ 256 }
     requires fits { 256 ≤ room clause.old }
-    ensures fed { Fed goes stops (each_all (λ c. denials beside (passing (row_satisfies text.now c) 0 packages.now)) constraints.now) result sink.old sink.new }
+    ensures fed { Fed S.goes S.stops (each_all (λ c. denials beside (passing (row_satisfies text.now c) 0 packages.now)) constraints.now) result sink.old sink.new }
     ensures room { room clause.new ≡ room clause.old }
 {
     for constraint in constraints {

@@ -12,20 +12,20 @@ use Rattle.problem.specs.Meaning.{problem_of}
 use Rattle.problem.proofs.Answering.{step-refused, step-accepted, begun_few}
 use Rattle.problem.proofs.answer_lines.read_line.Goals as goal
 
-pub returns-in-default : goal.returns-in-default
-returns-in-default c =
+pub returns-in_default : goal.returns-in_default
+returns-in_default c =
     let text = c.args.text.now in
     let e : eqb (length (word_in text c.args.line)) 0 ≡ false = ne_eqb (length (word_in text c.args.line)) 0 (λ z. c.if-line-eq0.false (sym (word_length text c.args.line c.requires.inside) ∙ z)) in
-    let q : None ≡ property (word_in text c.args.line) = c.in-default.ensures.value in
+    let q : None ≡ property (word_in text c.args.line) = c.in_default.ensures.value in
     record { state = rw (e, ← q) refl; good = tt }
 
-pub returns-in-err-head : goal.returns-in-err-head
-returns-in-err-head c =
+pub returns-in_err-head : goal.returns-in_err-head
+returns-in_err-head c =
     let text = c.args.text.now in
     let e : eqb (length (word_in text c.args.line)) 0 ≡ false = ne_eqb (length (word_in text c.args.line)) 0 (λ z. c.if-line-eq0.false (sym (word_length text c.args.line c.requires.inside) ∙ z)) in
-    let p = err_from_is_err_and c.from-residual-in-err-head.result c.from-residual-in-err-head.ensures.1 in
+    let p = err_from_is_err_and c.from_residual-in_err-head.result c.from_residual-in_err-head.ensures.1 in
     record {
-      state = ap (ok_mapped (answering_of text c.args.table.now)) p.1 ∙ ap Err p.2 ∙ step-refused text (problem_of c.args.problem.now).packages c.args.number c.args.table.now c.args.last (word_in text c.args.line) (shown text c.in-Some.property) _ _ e c.in-Some.ensures.value refl c.in-err-head.ensures.head;
+      state = ap (ok_mapped (answering_of text c.args.table.now)) p.1 ∙ ap Err p.2 ∙ step-refused text (problem_of c.args.problem.now).packages c.args.number c.args.table.now c.args.last (word_in text c.args.line) (shown text c.in-Some.property) _ _ e c.in-Some.ensures.value refl c.in_err-head.ensures.head;
       good = subst (λ x. IfOk x (λ s. IfSome s.draft (HeadOk (length text)) × (s.begun ≤ c.args.number))) (sym p.1) tt;
     }
 
@@ -34,6 +34,6 @@ returns c =
     let text = c.args.text.now in
     let e : eqb (length (word_in text c.args.line)) 0 ≡ false = ne_eqb (length (word_in text c.args.line)) 0 (λ z. c.if-line-eq0.false (sym (word_length text c.args.line c.requires.inside) ∙ z)) in
     record {
-      state = step-accepted text (problem_of c.args.problem.now).packages c.args.number c.args.table.now c.args.last (word_in text c.args.line) (shown text c.in-Some.property) _ c.in-ok-head.head c.after-property.result e c.in-Some.ensures.value refl c.in-ok-head.ensures.head c.after-property.ensures;
-      good = subst (λ s. IfSome s.draft (HeadOk (length text)) × (s.begun ≤ c.args.number)) (sym c.after-property.ensures) (c.in-ok-head.ensures.good, begun_few c.args.last.draft c.args.last.begun c.args.number c.requires.few);
+      state = step-accepted text (problem_of c.args.problem.now).packages c.args.number c.args.table.now c.args.last (word_in text c.args.line) (shown text c.in-Some.property) _ c.in_ok-head.head c.after_property.result e c.in-Some.ensures.value refl c.in_ok-head.ensures.head c.after_property.ensures;
+      good = subst (λ s. IfSome s.draft (HeadOk (length text)) × (s.begun ≤ c.args.number)) (sym c.after_property.ensures) (c.in_ok-head.ensures.good, begun_few c.args.last.draft c.args.last.begun c.args.number c.requires.few);
     }

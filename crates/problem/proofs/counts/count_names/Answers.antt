@@ -3,7 +3,7 @@ use Rattle.problem.specs.Naming.{affected}
 use Rattle.problem.specs.Rows.{no_package}
 use Rattle.problem.proofs.Names.{names-step, names_none}
 use Rattle.problem.proofs.counts.count_names.Goals as goal
-use Rattle.problem.proofs.counts.count_names.Goals.{then-is-counted, else-is-counted}
+use Rattle.problem.proofs.counts.count_names.Goals.{then-is_counted, else-is_counted}
 
 one_more : (n n' left left' whole : ℕ) → n' ≡ n + 1 → left ≡ suc left' → n + left ≡ whole → n' + left' ≡ whole
 one_more n n' left left' whole e f h = omega arith
@@ -17,13 +17,13 @@ all_counted n left whole e h = omega arith
 pub loop-place-preserved : goal.loop-place-preserved
 loop-place-preserved c =
     let t = affected c.args.text.now c.args.set.now c.args.packages.now c.args.effect in
-    elim c.if-is-counted.branch [
-      | then-is-counted w ↦ (
-        one_more c.loop-place.count _ _ _ _ w.count-is (names-step c.args.text.now t c.args.packages.now c.loop-place.place no_package c.loop-place-test.true _ w.if-is-counted.ensures) c.loop-place.invariant.0,
+    elim c.if-is_counted.branch [
+      | then-is_counted w ↦ (
+        one_more c.loop-place.count _ _ _ _ w.count-is (names-step c.args.text.now t c.args.packages.now c.loop-place.place no_package c.loop-place-test.true _ w.if-is_counted.ensures) c.loop-place.invariant.0,
         omega (arith, w.count-is, c.loop-place.invariant.1),
       )
-      | else-is-counted w ↦ (
-        no_more c.loop-place.count _ _ _ _ w.count-is (names-step c.args.text.now t c.args.packages.now c.loop-place.place no_package c.loop-place-test.true _ w.if-is-counted.ensures) c.loop-place.invariant.0,
+      | else-is_counted w ↦ (
+        no_more c.loop-place.count _ _ _ _ w.count-is (names-step c.args.text.now t c.args.packages.now c.loop-place.place no_package c.loop-place-test.true _ w.if-is_counted.ensures) c.loop-place.invariant.0,
         omega (arith, w.count-is, c.loop-place.invariant.1),
       )
     ]

@@ -4,18 +4,18 @@ use Rattle.problem.proofs.Checked.{none_failed, one_failed, some_not_none}
 use Rattle.problem.proofs.Few.{plan-clauses-few}
 use Rattle.problem.proofs.plan_check.check_plan.Goals as goal
 
-pub returns-then-feed-plan-clauses : goal.returns-then-feed-plan-clauses
-returns-then-feed-plan-clauses c =
-    let e = none_failed c.args.set.now _ 1 _ _ refl c.if-feed-plan-clauses.ensures in
+pub returns-then-feed_plan_clauses : goal.returns-then-feed_plan_clauses
+returns-then-feed_plan_clauses c =
+    let e = none_failed c.args.set.now _ 1 _ _ refl c.if-feed_plan_clauses.ensures in
     record { checks = ((plans_agree.none _ _).0 e, e); agree = plans_agree }
 
-pub overflow-add-result : goal.overflow-add-result
-overflow-add-result c =
-    omega (arith, plan-clauses-few c.args.problem.now, (one_failed c.args.set.now _ _ _ refl (omega (arith, plan-clauses-few c.args.problem.now)) c.if-feed-plan-clauses.ensures).1)
+pub overflow_add-result : goal.overflow_add-result
+overflow_add-result c =
+    omega (arith, plan-clauses-few c.args.problem.now, (one_failed c.args.set.now _ _ _ refl (omega (arith, plan-clauses-few c.args.problem.now)) c.if-feed_plan_clauses.ensures).1)
 
 pub returns : goal.returns
 returns c =
     let few = plan-clauses-few c.args.problem.now in
-    let n : suc c.feed-plan-clauses.new.sink.passed ≡ c.feed-plan-clauses.new.sink.passed + 1 = omega arith in
-    let e = (one_failed c.args.set.now _ _ _ refl (omega (arith, few)) c.if-feed-plan-clauses.ensures).0 ∙ ap (λ k. Some k) n in
+    let n : suc c.feed_plan_clauses.new.sink.passed ≡ c.feed_plan_clauses.new.sink.passed + 1 = omega arith in
+    let e = (one_failed c.args.set.now _ _ _ refl (omega (arith, few)) c.if-feed_plan_clauses.ensures).0 ∙ ap (λ k. Some k) n in
     record { checks = ((λ p. some_not_none _ _ ((plans_agree.none _ _).1 p) e), e); agree = plans_agree }

@@ -6,18 +6,18 @@ use Rattle.problem.specs.Stanzas.{row_satisfies_one, passing}
 use Rattle.problem.proofs.Feeds.{walk_more, walk-stop, walk-all}
 use Rattle.problem.proofs.plan_clauses.feed_installs.Goals as goal
 
-pub returns-then-not-feed-install : goal.returns-then-not-feed-install
-returns-then-not-feed-install g c = record {
-  fed = walk-stop _ _ (λ i. each lit (passing (row_satisfies_one c.args.text.now (i ∷ [])) 0 c.args.packages.now) ∷ []) _ _ c.loop-item.sink c.feed-install.new.sink c.args.items.now c.loop-item.item-index
-      no_constraint c.loop-item-test.true c.loop-item.invariant.0 c.if-not-feed-install.ensures.fed;
-  room = c.feed-install.ensures.room ∙ c.loop-item.invariant.1;
+pub returns-then-not-feed_install : goal.returns-then-not-feed_install
+returns-then-not-feed_install g c = record {
+  fed = walk-stop _ _ (λ i. each lit (passing (row_satisfies_one c.args.text.now (i ∷ [])) 0 c.args.packages.now) ∷ []) _ _ c.loop-item.sink c.feed_install.new.sink c.args.items.now c.loop-item.item-index
+      no_constraint c.loop-item-test.true c.loop-item.invariant.0 c.if-not-feed_install.ensures.fed;
+  room = c.feed_install.ensures.room ∙ c.loop-item.invariant.1;
 }
 
 pub loop-item-preserved : goal.loop-item-preserved
 loop-item-preserved g c = (
-  walk_more _ _ (λ i. each lit (passing (row_satisfies_one c.args.text.now (i ∷ [])) 0 c.args.packages.now) ∷ []) _ _ c.loop-item.sink c.feed-install.new.sink c.args.items.now c.loop-item.item-index
-      no_constraint c.loop-item-test.true c.loop-item.invariant.0 c.if-not-feed-install.ensures.fed,
-  c.feed-install.ensures.room ∙ c.loop-item.invariant.1,
+  walk_more _ _ (λ i. each lit (passing (row_satisfies_one c.args.text.now (i ∷ [])) 0 c.args.packages.now) ∷ []) _ _ c.loop-item.sink c.feed_install.new.sink c.args.items.now c.loop-item.item-index
+      no_constraint c.loop-item-test.true c.loop-item.invariant.0 c.if-not-feed_install.ensures.fed,
+  c.feed_install.ensures.room ∙ c.loop-item.invariant.1,
 )
 
 pub returns : goal.returns

@@ -3,16 +3,16 @@ use Rattle.problem.proofs.Feeds.{fed-on, fed-stop, fed-on-as, fed-as}
 use Rattle.problem.proofs.Meets.{install-are, remove-are}
 use Rattle.problem.proofs.plan_clauses.feed_plan_clauses.Goals as goal
 
-pub returns-then-not-feed-stanzas : goal.returns-then-not-feed-stanzas
-returns-then-not-feed-stanzas g c = fed-stop _ _ _ _ _ _ (fed-stop _ _ _ _ _ _ c.if-not-feed-stanzas.ensures.fed)
+pub returns-then-not-feed_stanzas : goal.returns-then-not-feed_stanzas
+returns-then-not-feed_stanzas g c = fed-stop _ _ _ _ _ _ (fed-stop _ _ _ _ _ _ c.if-not-feed_stanzas.ensures.fed)
 
-pub returns-then-not-feed-installs : goal.returns-then-not-feed-installs
-returns-then-not-feed-installs g c =
+pub returns-then-not-feed_installs : goal.returns-then-not-feed_installs
+returns-then-not-feed_installs g c =
     fed-stop _ _ _ _ _ _ (fed-on-as _ _ _ _ _ _ _ _ _ _ refl (install-are c.args.problem.now _ _ c.text-text.ensures c.packages-packages.ensures.value _ c.install.ensures)
-    c.if-not-feed-stanzas.ensures.fed c.if-not-feed-installs.ensures.fed)
+    c.if-not-feed_stanzas.ensures.fed c.if-not-feed_installs.ensures.fed)
 
 pub returns : goal.returns
 returns g c =
     fed-on _ _ _ _ _ _ _ _ (fed-on-as _ _ _ _ _ _ _ _ _ _ refl (install-are c.args.problem.now _ _ c.text-text.ensures c.packages-packages.ensures.value _ c.install.ensures)
-    c.if-not-feed-stanzas.ensures.fed c.if-not-feed-installs.ensures.fed)
-    (fed-as _ _ _ _ _ _ _ (remove-are c.args.problem.now _ _ c.text-text.ensures c.packages-packages.ensures.value _ c.remove.ensures) c.feed-denied.ensures.fed)
+    c.if-not-feed_stanzas.ensures.fed c.if-not-feed_installs.ensures.fed)
+    (fed-as _ _ _ _ _ _ _ (remove-are c.args.problem.now _ _ c.text-text.ensures c.packages-packages.ensures.value _ c.remove.ensures) c.feed_denied.ensures.fed)

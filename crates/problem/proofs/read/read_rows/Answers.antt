@@ -16,37 +16,37 @@ use Rattle.problem.proofs.read.read_rows.Goals as goal
 same_then : {T : Type 0} (r s t : Rows T) → Same r s → Same s t → Same r t
 same_then r s t h k = record { room = k.room ∙ h.room; zero = k.zero ∙ h.zero; lender = k.lender ∙ h.lender }
 
-pub returns-in-Some-first-repeat : goal.returns-in-Some-first-repeat
-returns-in-Some-first-repeat c =
+pub returns-in-Some-first_repeat : goal.returns-in-Some-first_repeat
+returns-in-Some-first_repeat c =
     let text = c.args.text.now in
-    let ps = items c.read-lines.new.packages in
+    let ps = items c.read_lines.new.packages in
     let qs = items c.close.new.packages in
-    let cs = items c.read-lines.new.constraints in
-    let m : package_limit c.read-lines.new.packages ≡ package_limit c.args.packages.now = ap (min 256) c.read-lines.ensures.same.room in
-    let b = c.in-ok-last.ensures.state text cs ∙ ap (λ x. closed x (state_of text ps cs c.in-ok-progress.progress)) m in
-    let h = c.in-Some-first-repeat.ensures ∙ ap (repeated_in text []) c.as-slice.ensures in
+    let cs = items c.read_lines.new.constraints in
+    let m : package_limit c.read_lines.new.packages ≡ package_limit c.args.packages.now = ap (min 256) c.read_lines.ensures.same.room in
+    let b = c.in_ok-last.ensures.state text cs ∙ ap (λ x. closed x (state_of text ps cs c.in_ok-progress.progress)) m in
+    let h = c.in-Some-first_repeat.ensures ∙ ap (repeated_in text []) c.as_slice.ensures in
     record {
-      problem = read_twice text (doc text) (limits_of c.args.packages.now c.args.constraints.now) ps qs cs c.in-ok-progress.progress c.in-ok-last.last c.in-Some.wanted c.in-Some-first-repeat.line c.in-ok-progress.ensures.state b c.in-Some.is h;
+      problem = read_twice text (doc text) (limits_of c.args.packages.now c.args.constraints.now) ps qs cs c.in_ok-progress.progress c.in_ok-last.last c.in-Some.wanted c.in-Some-first_repeat.line c.in_ok-progress.ensures.state b c.in-Some.is h;
       good = tt;
-      same = same_then c.args.packages.now c.read-lines.new.packages c.close.new.packages c.read-lines.ensures.same c.close.ensures.same;
-      others = c.read-lines.ensures.grown.same;
+      same = same_then c.args.packages.now c.read_lines.new.packages c.close.new.packages c.read_lines.ensures.same c.close.ensures.same;
+      others = c.read_lines.ensures.grown.same;
     }
 
 pub returns : goal.returns
 returns c =
     let text = c.args.text.now in
-    let ps = items c.read-lines.new.packages in
+    let ps = items c.read_lines.new.packages in
     let qs = items c.close.new.packages in
-    let cs = items c.read-lines.new.constraints in
-    let m : package_limit c.read-lines.new.packages ≡ package_limit c.args.packages.now = ap (min 256) c.read-lines.ensures.same.room in
-    let b = c.in-ok-last.ensures.state text cs ∙ ap (λ x. closed x (state_of text ps cs c.in-ok-progress.progress)) m in
-    let h : None ≡ repeated_in text [] qs = c.in-default-first-repeat.ensures ∙ ap (repeated_in text []) c.as-slice.ensures in
-    let g = c.read-lines.ensures.grown in
-    let s : Sound (length text) (length cs) qs c.in-ok-last.last = c.in-ok-last.ensures.good (length text) (length cs) c.in-ok-progress.ensures.sound in
+    let cs = items c.read_lines.new.constraints in
+    let m : package_limit c.read_lines.new.packages ≡ package_limit c.args.packages.now = ap (min 256) c.read_lines.ensures.same.room in
+    let b = c.in_ok-last.ensures.state text cs ∙ ap (λ x. closed x (state_of text ps cs c.in_ok-progress.progress)) m in
+    let h : None ≡ repeated_in text [] qs = c.in_default-first_repeat.ensures ∙ ap (repeated_in text []) c.as_slice.ensures in
+    let g = c.read_lines.ensures.grown in
+    let s : Sound (length text) (length cs) qs c.in_ok-last.last = c.in_ok-last.ensures.good (length text) (length cs) c.in_ok-progress.ensures.sound in
     let none : length (items c.args.constraints.now) ≡ 0 = ap length c.requires.constraints in
-    let few : length cs ≤ limit_of c.read-lines.new.constraints = g.few (omega arith) in
+    let few : length cs ≤ limit_of c.read_lines.new.constraints = g.few (omega arith) in
     record {
-      problem = read_whole text (doc text) (limits_of c.args.packages.now c.args.constraints.now) ps qs cs c.in-ok-progress.progress c.in-ok-last.last c.in-Some.wanted c.in-ok-progress.ensures.state b c.in-Some.is h;
+      problem = read_whole text (doc text) (limits_of c.args.packages.now c.args.constraints.now) ps qs cs c.in_ok-progress.progress c.in_ok-last.last c.in-Some.wanted c.in_ok-progress.ensures.state b c.in-Some.is h;
       good =
           record {
             packages = s.packages;
@@ -56,6 +56,6 @@ returns c =
             few = s.few;
             asked = omega arith;
           };
-      same = same_then c.args.packages.now c.read-lines.new.packages c.close.new.packages c.read-lines.ensures.same c.close.ensures.same;
+      same = same_then c.args.packages.now c.read_lines.new.packages c.close.new.packages c.read_lines.ensures.same c.close.ensures.same;
       others = g.same;
     }

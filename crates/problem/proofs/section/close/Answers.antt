@@ -10,7 +10,7 @@ returns-in-Package c =
     let ps = items c.args.packages.now in
     let qs = items c.file-filed.new.packages in
     record {
-      state = λ text cs. ap (ok_mapped (state_of text qs cs)) c.after-filing.ensures ∙ closes (package_limit c.args.packages.now) ps qs c.in-Package.draft c.args.last c.file-filed.result c.in-Package.is c.file-filed.ensures.files text cs;
-      good = λ bytes n h. subst (λ x. IfOk x (Sound bytes n qs)) (sym c.after-filing.ensures) (closes_good (package_limit c.args.packages.now) ps qs c.in-Package.draft c.args.last c.file-filed.result (omega arith) c.in-Package.is c.file-filed.ensures.files bytes n h);
+      state = λ text cs. ap (ok_mapped (state_of text qs cs)) c.after_filing.ensures ∙ closes (package_limit c.args.packages.now) ps qs c.in-Package.draft c.args.last c.file-filed.result c.in-Package.is c.file-filed.ensures.files text cs;
+      good = λ bytes n h. subst (λ x. IfOk x (Sound bytes n qs)) (sym c.after_filing.ensures) (closes_good (package_limit c.args.packages.now) ps qs c.in-Package.draft c.args.last c.file-filed.result (omega arith) c.in-Package.is c.file-filed.ensures.files bytes n h);
       same = c.file-filed.ensures.same;
     }

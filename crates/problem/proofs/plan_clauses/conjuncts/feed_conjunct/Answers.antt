@@ -5,14 +5,14 @@ use Rattle.problem.proofs.Feeds.{fed-none, fed-one}
 use Rattle.problem.proofs.Passing.{needs-none, needs-written}
 use Rattle.problem.proofs.plan_clauses.conjuncts.feed_conjunct.Goals as goal
 
-pub returns-then-satisfies-one : goal.returns-then-satisfies-one
-returns-then-satisfies-one g c = record {
-  fed = fed-none _ _ _ _ (needs-none _ c.args.packages.now c.args.place no_package c.requires.place (sym c.if-satisfies-one.ensures));
+pub returns-then-satisfies_one : goal.returns-then-satisfies_one
+returns-then-satisfies_one g c = record {
+  fed = fed-none _ _ _ _ (needs-none _ c.args.packages.now c.args.place no_package c.requires.place (sym c.if-satisfies_one.ensures));
   room = refl;
 }
 
-pub write-met-requires-2 : goal.write-met-requires-2
-write-met-requires-2 g c =
+pub write_met-requires-2 : goal.write_met-requires-2
+write_met-requires-2 g c =
     let ps = c.args.packages.now in
     let n = length-take (length ps - (c.args.place + 1)) (drop (c.args.place + 1) ps) in
     let m = length-drop (c.args.place + 1) ps in
@@ -24,10 +24,10 @@ write-met-requires-2 g c =
         m,
         length-take (c.args.place - 0) ps,
         ap length c.clear.ensures.items,
-        c.write-met.ensures.len,
-        ap length c.write-out.ensures.items ∙ length_push _ _,
-        c.write-out.ensures.room,
-        c.write-met.ensures.room,
+        c.write_met.ensures.len,
+        ap length c.write_out.ensures.items ∙ length_push _ _,
+        c.write_out.ensures.room,
+        c.write_met.ensures.room,
         c.clear.ensures.same.room,
       );
     }
@@ -36,8 +36,8 @@ pub returns : goal.returns
 returns g c = record {
   fed = let same : c.args.place - 0 ≡ c.args.place = omega arith in
       fed-one _ _ _ _ _ _ _
-      (needs-written _ c.args.packages.now c.args.place no_package c.requires.place _ _ _ _ _ _ (sym c.if-satisfies-one.ensures) (ap (λ n. take n c.args.packages.now) same) (take_rest c.args.packages.now (c.args.place + 1))
-      c.clear.ensures.items c.write-met.ensures.items c.write-out.ensures.items (c.as-slice.ensures ∙ c.write-met-2.ensures.items))
+      (needs-written _ c.args.packages.now c.args.place no_package c.requires.place _ _ _ _ _ _ (sym c.if-satisfies_one.ensures) (ap (λ n. take n c.args.packages.now) same) (take_rest c.args.packages.now (c.args.place + 1))
+      c.clear.ensures.items c.write_met.ensures.items c.write_out.ensures.items (c.as_slice.ensures ∙ c.write_met-2.ensures.items))
       c.take.ensures;
-  room = c.write-met-2.ensures.room ∙ c.write-out.ensures.room ∙ c.write-met.ensures.room ∙ c.clear.ensures.same.room;
+  room = c.write_met-2.ensures.room ∙ c.write_out.ensures.room ∙ c.write_met.ensures.room ∙ c.clear.ensures.same.room;
 }

@@ -3,21 +3,21 @@ use Rattle.text.specs.Rows.{room}
 use Rattle.problem.specs.Rows.{no_package}
 use Rattle.problem.proofs.Denials.{denials-more, denials-stop, denials-same, denials-all}
 use Rattle.problem.proofs.plan_clauses.denials.feed_denials.Goals as goal
-use Rattle.problem.proofs.plan_clauses.denials.feed_denials.Goals.{else-satisfies-via-then-satisfies+else-not-feed-denial, else-satisfies-via-else-satisfies}
+use Rattle.problem.proofs.plan_clauses.denials.feed_denials.Goals.{else-satisfies-via-then-satisfies+else-not-feed_denial, else-satisfies-via-else-satisfies}
 
-pub returns-then-not-feed-denial : goal.returns-then-not-feed-denial
-returns-then-not-feed-denial g c = record {
-  fed = denials-stop _ _ c.args.beside _ _ _ _ _ c.args.packages.now c.loop-i.i no_package c.loop-i-test.true c.loop-i.invariant.0 (sym c.if-satisfies.ensures) c.if-not-feed-denial.ensures.fed;
-  room = c.feed-denial.ensures.room ∙ c.loop-i.invariant.1;
+pub returns-then-not-feed_denial : goal.returns-then-not-feed_denial
+returns-then-not-feed_denial g c = record {
+  fed = denials-stop _ _ c.args.beside _ _ _ _ _ c.args.packages.now c.loop-i.i no_package c.loop-i-test.true c.loop-i.invariant.0 (sym c.if-satisfies.ensures) c.if-not-feed_denial.ensures.fed;
+  room = c.feed_denial.ensures.room ∙ c.loop-i.invariant.1;
 }
 
 pub loop-i-preserved : goal.loop-i-preserved
 loop-i-preserved g c =
     elim c.else-satisfies.branch [
-      | else-satisfies-via-then-satisfies+else-not-feed-denial w ↦ (
+      | else-satisfies-via-then-satisfies+else-not-feed_denial w ↦ (
         denials-more _ _ c.args.beside _ _ _ _ _ c.args.packages.now c.loop-i.i no_package c.loop-i-test.true c.loop-i.invariant.0 (sym w.if-satisfies.ensures) _
-            w.if-not-feed-denial.ensures.fed w.sink-is,
-        ap room w.clause-is ∙ w.feed-denial.ensures.room ∙ c.loop-i.invariant.1,
+            w.if-not-feed_denial.ensures.fed w.sink-is,
+        ap room w.clause-is ∙ w.feed_denial.ensures.room ∙ c.loop-i.invariant.1,
       )
       | else-satisfies-via-else-satisfies w ↦ (
         denials-same _ _ c.args.beside _ _ _ _ _ c.args.packages.now c.loop-i.i no_package c.loop-i-test.true c.loop-i.invariant.0 (sym w.if-satisfies.ensures) w.sink-is,

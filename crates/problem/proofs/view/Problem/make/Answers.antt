@@ -7,8 +7,8 @@ use Rattle.problem.proofs.Closing.{spanned_given}
 use Rattle.problem.proofs.Holding.{at_first}
 use Rattle.problem.proofs.view.Problem.make.Goals as goal
 
-pub invariant-of-result : goal.invariant-of-result
-invariant-of-result c =
+pub invariant_of-result : goal.invariant_of-result
+invariant_of-result c =
     let text = c.args.text.now in
     let ps = c.args.packages.now in
     let cs = c.args.constraints.now in
@@ -18,44 +18,23 @@ invariant-of-result c =
     let q : length (take n ps) ≡ n = length-take-le n ps c.requires.packages.within in
     let p : (k : ℕ) → k < n → PackageOk (length text) (length (take a cs)) (get_or ps k no_package) = λ k lt. at_first (PackageOk (length text) (length (take a cs))) ps n k no_package c.requires.packages.within c.requires.good.packages lt in
     let r : (k : ℕ) → k < a → ConstraintOk (length text) (get_or cs k no_constraint) = λ k lt. at_first (ConstraintOk (length text)) cs a k no_constraint c.requires.constraints.within c.requires.good.constraints lt in
-    let i : Spanned (length (take a cs)) c.unwrap-or.result = subst (Spanned (length (take a cs))) (sym c.unwrap-or.ensures) (spanned_given (length (take a cs)) c.args.wanted.install c.requires.good.request.install) in
-    let j : Spanned (length (take a cs)) c.unwrap-or-2.result = subst (Spanned (length (take a cs))) (sym c.unwrap-or-2.ensures) (spanned_given (length (take a cs)) c.args.wanted.remove c.requires.good.request.remove) in (
-      c.requires.packages.within,
-      (
-        omega (arith, c.requires.good.few),
-        (
-          c.requires.packages.blank,
-          (
-            c.requires.constraints.within,
-            (
-              omega (arith, c.requires.good.asked),
-              (
-                c.requires.constraints.blank,
-                (
-                  (λ k lt. (p k lt).name),
-                  (
-                    (λ k lt. (p k lt).least),
-                    (
-                      (λ k lt. (p k lt).most),
-                      (
-                        (λ k lt. omega (arith, (p k lt).depends)),
-                        (
-                          (λ k lt. omega (arith, (p k lt).conflicts)),
-                          (
-                            (λ k lt. (r k lt).name),
-                            (
-                              (λ k lt. (r k lt).most),
-                              (omega arith, (omega arith, (c.requires.good.once, tt))),
-                            ),
-                          ),
-                        ),
-                      ),
-                    ),
-                  ),
-                ),
-              ),
-            ),
-          ),
-        ),
-      ),
-    )
+    let i : Spanned (length (take a cs)) c.unwrap_or.result = subst (Spanned (length (take a cs))) (sym c.unwrap_or.ensures) (spanned_given (length (take a cs)) c.args.wanted.install c.requires.good.request.install) in
+    let j : Spanned (length (take a cs)) c.unwrap_or-2.result = subst (Spanned (length (take a cs))) (sym c.unwrap_or-2.ensures) (spanned_given (length (take a cs)) c.args.wanted.remove c.requires.good.request.remove) in
+    record {
+      packages_held = c.requires.packages.within;
+      packages_few = omega (arith, c.requires.good.few);
+      packages_blank = c.requires.packages.blank;
+      constraints_held = c.requires.constraints.within;
+      constraints_few = omega (arith, c.requires.good.asked);
+      constraints_blank = c.requires.constraints.blank;
+      names = λ k lt. (p k lt).name;
+      versions_least = λ k lt. (p k lt).least;
+      versions_most = λ k lt. (p k lt).most;
+      depends = λ k lt. omega (arith, (p k lt).depends);
+      conflicts = λ k lt. omega (arith, (p k lt).conflicts);
+      constraint_names = λ k lt. (r k lt).name;
+      constraint_versions = λ k lt. (r k lt).most;
+      install_held = omega arith;
+      remove_held = omega arith;
+      distinct = c.requires.good.once;
+    }
