@@ -25,11 +25,22 @@ CHOSEN = {
     "first-false": "first_false_found",
     "literals-of": "literals_of_words",
     "not-both": "not_false_and_unset",
+    "on-answer": "on_answer_counts",
     "on-plan": "on_plan_counts",
+    "on-problem": "on_problem_counts",
     "stanza-at": "stanza_at_place",
     "stored-all": "stored_all_filled",
     "unset-all": "unset_everywhere",
     "variable-of": "variable_positive",
+}
+# Other names under which a file takes a word in.
+ALIASES = {
+    "inTrial": "in_trial",
+    "noRoom": "no_room",
+    "notLive": "is_not_live",
+    "openInTrial": "open_in_trial",
+    "openNoRoom": "open_no_room",
+    "operatorOf": "operator_of",
 }
 # The same for a lemma that port.py had turned before.
 CHOSEN_IN = {"crates/verdict/proofs/Law.antt": {"is_true": "refuted_means"}}
@@ -53,16 +64,20 @@ def declared(root):
     tops, labels, made = {}, set(), set()
     for path in files(root, ".antt"):
         lines = read(path).split("\n")
-        block = None
-        for i, line in enumerate(lines):
+        block, inner = None, False
+        for line in lines:
             if not line.startswith((" ", "-", "use ", "mod ", "pub mod ", "}")) and line.strip():
-                block = "labels" if re.match(r"^(abbrev |pub )*(record|data) ", line) else None
-                m = TOP.match(line)
-                if m and MADE.search(line):
+                inner = bool(re.match(r"^(pub )?module .*where$", line))
+            depth = 2 if inner and line.startswith("  ") else 0
+            body = line[depth:]
+            if not body.startswith((" ", "-", "use ", "mod ", "pub mod ", "}")) and body.strip():
+                block = "labels" if re.match(r"^(abbrev |pub )*(record|data) ", body) else None
+                m = TOP.match(body)
+                if m and MADE.search(body):
                     made.add(m.group(1))
-                elif m:
-                    tops.setdefault(m.group(1), []).append(line)
-            m = LABEL.match(line)
+                elif m and m.group(1) not in ("module", "let", "in"):
+                    tops.setdefault(m.group(1), []).append(body)
+            m = LABEL.match(body)
             if m and block:
                 labels.add(m.group(1))
         for line in lines:
@@ -108,6 +123,7 @@ def table(root):
     for label in labels:
         if "-" in label or snake(label) != label:
             new[label] = snake(label.replace("-", "_"))
+    new.update(ALIASES)
     return {old: it for old, it in new.items() if old != it}, set(tops) | labels, made
 
 

@@ -56,14 +56,14 @@ module _ (c d : Common) (n k : ℕ) (ok : Sane c) (p : c.phase ≡ Open) (lt : k
   rest : (t : Trial) → trial_of d.phase d.values.cells.now ≡ t → meaning_of d ≡ with_trial (meaning_of c) (meaning_of d).trial
   rest t e = meaning_is d (with_trial (meaning_of c) (meaning_of d).trial) (rw same) (rw same) (rw same) (room_same c d s) refl
 
-  pub said-unit : d.phase ≡ Open → Followed c.values.cells.now d.values.cells.now (clause_at c.store k) OneLeft → Hints (meaning_of c) n (Ok OneLeft) (meaning_of d)
-  said-unit q f = (rw p (clause_at c.store k, f.0, (at, f.1.0, rw q (ap running f.1.1))), rest _ refl)
+  pub said_unit : d.phase ≡ Open → Followed c.values.cells.now d.values.cells.now (clause_at c.store k) OneLeft → Hints (meaning_of c) n (Ok OneLeft) (meaning_of d)
+  said_unit q f = (rw p (clause_at c.store k, f.0, (at, f.1.0, rw q (ap running f.1.1))), rest _ refl)
 
-  pub said-conflict : d.phase ≡ Answered → Followed c.values.cells.now d.values.cells.now (clause_at c.store k) Conflict → Hints (meaning_of c) n (Ok Conflict) (meaning_of d)
-  said-conflict q f = (rw p (clause_at c.store k, (at, f, rw q)), rest _ refl)
+  pub said_conflict : d.phase ≡ Answered → Followed c.values.cells.now d.values.cells.now (clause_at c.store k) Conflict → Hints (meaning_of c) n (Ok Conflict) (meaning_of d)
+  said_conflict q f = (rw p (clause_at c.store k, (at, f, rw q)), rest _ refl)
 
-  pub said-useless : d.phase ≡ Open → Followed c.values.cells.now d.values.cells.now (clause_at c.store k) Useless → Hints (meaning_of c) n (Ok Useless) (meaning_of d)
-  said-useless q f = (rw p (clause_at c.store k, (at, (λ h. no_conflict (values_of c.values.cells.now) (clause_at c.store k) h f.0), settled_unit (values_of c.values.cells.now) (clause_at c.store k) f.0, rw (q, f.1))), rest _ refl)
+  pub said_useless : d.phase ≡ Open → Followed c.values.cells.now d.values.cells.now (clause_at c.store k) Useless → Hints (meaning_of c) n (Ok Useless) (meaning_of d)
+  said_useless q f = (rw p (clause_at c.store k, (at, (λ h. no_conflict (values_of c.values.cells.now) (clause_at c.store k) h f.0), settled_unit (values_of c.values.cells.now) (clause_at c.store k) f.0, rw (q, f.1))), rest _ refl)
 
 -- cells that are unset, one by one
 pub unset_more : (xs : List (Option Bool)) (i : ℕ) → i < length xs → ((k : ℕ) → k < i → get_or xs k None ≡ None) → (k : ℕ) → k < i + 1 → get_or (set xs i None) k None ≡ None
@@ -90,14 +90,14 @@ deny_more xs ys c i some le fits lt new h =
 
 -- what the scan of a clause says to a hint
 module _ (xs : List (Option Bool)) (cl dl : Clause) (is : cl ≡ dl) where
-  pub judged-conflict : Conflicting ≡ status_from (values_of xs) None cl → Followed xs xs dl Conflict
-  judged-conflict e = rw is at (means_of (values_of xs) cl Conflicting e)
+  pub judged_conflict : Conflicting ≡ status_from (values_of xs) None cl → Followed xs xs dl Conflict
+  judged_conflict e = rw is at (means_of (values_of xs) cl Conflicting e)
 
-  pub judged-other : Other ≡ status_from (values_of xs) None cl → Followed xs xs dl Useless
-  judged-other e = (rw is at (means_of (values_of xs) cl Other e), refl)
+  pub judged_other : Other ≡ status_from (values_of xs) None cl → Followed xs xs dl Useless
+  judged_other e = (rw is at (means_of (values_of xs) cl Other e), refl)
 
-  pub judged-forced : (ys : List (Option Bool)) (l : ℤ) → Placed cl (length xs) → SFits w32 l → Forced l ≡ status_from (values_of xs) None cl → ys ≡ set xs (variable_of (to_z w32 (of_z w32 l))) (Some (positive (to_z w32 (of_z w32 l)))) → Followed xs ys dl OneLeft
-  judged-forced ys l placed fits e new =
+  pub judged_forced : (ys : List (Option Bool)) (l : ℤ) → Placed cl (length xs) → SFits w32 l → Forced l ≡ status_from (values_of xs) None cl → ys ≡ set xs (variable_of (to_z w32 (of_z w32 l))) (Some (positive (to_z w32 (of_z w32 l)))) → Followed xs ys dl OneLeft
+  judged_forced ys l placed fits e new =
       let u : Unit' (values_of xs) cl l = means_of (values_of xs) cl (Forced l) e in
       let v : variable_of l < length xs = unit_holds (λ m. variable_of m < length xs) (values_of xs) cl l placed u in
       let w : ys ≡ set xs (variable_of l) (Some (positive l)) = rw (to_z-of_z w32 l fits) at new in

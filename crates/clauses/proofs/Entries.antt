@@ -12,7 +12,7 @@ use Rattle.clauses.specs.declared.index.Index.{Index}
 use Rattle.clauses.proofs.OneRow.{row_named}
 use Rattle.std.proofs.lemmas.Bool.{cases_eq, eq-eqb, ne_eqb}
 use Rattle.clauses.specs.Counting.{Tally, none, hits}
-use Rattle.clauses.proofs.Tallies.{tally-kept, tally-new, how_many_push}
+use Rattle.clauses.proofs.Tallies.{tally_kept, tally_new, how_many_push}
 use Rattle.clauses.proofs.Links.{on_bound, on_enter, on_new, below_push}
 
 pub clause_long : (s : Store) (k : ℕ) → length (clause_at s k) ≤ (row_at s.rows.now k).len
@@ -28,8 +28,8 @@ module _ (x y : Index) (code owner : ℕ) (ok : Linked x) (lt : code < x.lists) 
       let ne : e ≢ x.used = omega arith in
       (e, rw (heads, next) (on_enter x.next.now x.heads.now x.used code c e ok.falling nl (omega (arith, ok.listed)) b h.1), rw owners (get_or-set_other x.owners.now x.used e owner 0 ne ∙ h.2))
 
-  pub listed-new : Listed y code owner
-  listed-new = (x.used, rw heads (on_new y.next.now x.heads.now x.used code 0 (omega (arith, ok.listed))), rw owners (get_or-set_same x.owners.now x.used owner 0 ol))
+  pub listed_new : Listed y code owner
+  listed_new = (x.used, rw heads (on_new y.next.now x.heads.now x.used code 0 (omega (arith, ok.listed))), rw owners (get_or-set_same x.owners.now x.used owner 0 ol))
 
 pub code_bound : (l : ℤ) → code_of l ≤ 2 * variable_of l + 1
 code_bound l = go (positive l)
@@ -63,10 +63,10 @@ some_more next owners heads n code k c m f nl ol cl le t = go (cases_eq code c)
         let a : m + cond (eqb code c) 1 0 ≡ suc m = rw (eq-eqb code c q) (add-one m) in
         let t' : Tally next owners k (get_or heads code 0) m = subst (λ (z : ℕ). Tally next owners k (get_or heads z 0) m) (sym q) t in
         let le' : get_or heads code 0 ≤ n = subst (λ (z : ℕ). get_or heads z 0 ≤ n) (sym q) le in
-        rw a (subst (λ (z : ℕ). Tally (set next n (get_or heads code 0)) (set owners n k) k (get_or (set heads code (n + 1)) z 0) (suc m)) q (tally-new next owners heads n code k f nl ol cl m le' t'))
+        rw a (subst (λ (z : ℕ). Tally (set next n (get_or heads code 0)) (set owners n k) k (get_or (set heads code (n + 1)) z 0) (suc m)) q (tally_new next owners heads n code k f nl ol cl m le' t'))
     go (inr q) =
         let a : m + cond (eqb code c) 1 0 ≡ m = rw (ne_eqb code c q) (add-zero m) in
-        rw a (tally-kept next owners heads n code k f nl ol cl k c m le t)
+        rw a (tally_kept next owners heads n code k f nl ol cl k c m le t)
 
 pub entering_more : (s : Store) (x₀ x y : Index) (k i code : ℕ) → k < s.count → i < length (clause_at s k) → code ≡ code_of (get_or (clause_at s k) i (pos 0)) → Linked y → y.used ≡ x.used + 1 → y.lists ≡ x.lists → y.heads.now ≡ set x.heads.now code (x.used + 1) → y.next.now ≡ set x.next.now x.used (get_or x.heads.now code 0) → y.owners.now ≡ set x.owners.now x.used k → Entering s x₀ x k i → Entering s x₀ y k (i + 1)
 entering_more s x₀ x y k i code lt h is linked used lists heads next owners e =
@@ -82,10 +82,10 @@ entering_more s x₀ x y k i code lt h is linked used lists heads next owners e 
       fit = record { sound = e.fit.sound; linked = linked; next = omega (arith, e.fit.next); owners = omega (arith, e.fit.owners); heads = omega (arith, e.fit.heads); few = e.fit.few };
       same = record { heads = hn ∙ e.same.heads; next = nn ∙ e.same.next; owners = on ∙ e.same.owners };
       whole = λ r rk j jl. kept _ r (code_fits s x r j e.fit (omega arith) jl) (e.whole r rk j jl);
-      part = below_more (λ j. Listed y (code_of (get_or (clause_at s k) j (pos 0))) k) i (λ j ji. kept _ k (code_fits s x k j e.fit lt (omega arith)) (e.part j ji)) (subst (λ (z : ℕ). Listed y z k) is (listed-new x y code k ok cl room.0 room.1 heads next owners));
+      part = below_more (λ j. Listed y (code_of (get_or (clause_at s k) j (pos 0))) k) i (λ j ji. kept _ k (code_fits s x k j e.fit lt (omega arith)) (e.part j ji)) (subst (λ (z : ℕ). Listed y z k) is (listed_new x y code k ok cl room.0 room.1 heads next owners));
       owned = rw (owners, used) (below_push x.owners.now x.used s.count k room.1 lt e.owned);
       room = omega (arith, e.room);
-      tallied = λ r rk c cy. let cx : c < x.lists = omega arith in rw (next, owners, heads) (tally-kept x.next.now x.owners.now x.heads.now x.used code k ok.falling room.0 room.1 hl r c _ (ok.begins c cx) (e.tallied r rk c cx));
+      tallied = λ r rk c cy. let cx : c < x.lists = omega arith in rw (next, owners, heads) (tally_kept x.next.now x.owners.now x.heads.now x.used code k ok.falling room.0 room.1 hl r c _ (ok.begins c cx) (e.tallied r rk c cx));
       some = λ c cy. let cx : c < x.lists = omega arith in rw (next, owners, heads, take_more (clause_at s k) i (pos 0) h, how_many_push (λ m. eqb (code_of m) c) (take i (clause_at s k)) (get_or (clause_at s k) i (pos 0)), ← is) (some_more x.next.now x.owners.now x.heads.now x.used code k c (hits c (take i (clause_at s k))) ok.falling room.0 room.1 hl (ok.begins c cx) (e.some c cx));
     }
 

@@ -19,8 +19,8 @@ use Rattle.clauses.specs.declared.store.Store.{Store}
 use Rattle.clauses.specs.declared.trail.Trail.{Trail}
 use Rattle.clauses.proofs.Statuses.{means_of}
 use Rattle.clauses.proofs.Memory.{values_set}
-use Rattle.clauses.proofs.OneRow.{unit_holds, row-placed, row_settled}
-use Rattle.clauses.proofs.Advance.{forced-fits}
+use Rattle.clauses.proofs.OneRow.{unit_holds, row_placed, row_settled}
+use Rattle.clauses.proofs.Advance.{forced_fits}
 use Rattle.clauses.proofs.Hits.{settled_set}
 use Rattle.text.proofs.Members.{or_left, or_right}
 
@@ -37,19 +37,19 @@ unit_settled : (f : Values) (c : Clause) (l : ℤ) → Unit' f c l → Settled (
 unit_settled f c l u = inl (rw u.parts (satisfied_at (set_true f l) u.before l u.after (set_is_true f l)))
 
 module _ (s : Store) (k : ℕ) (cl : Clause) (is : cl ≡ span s.literals.now (row_at s.rows.now k)) (lt : k < s.count) (xs : List (Option Bool)) (t : Trail) where
-  pub other-examined : Sound s → Other ≡ status_from (values_of xs) None cl → Examined s k xs xs t t
-  other-examined ok e =
+  pub other_examined : Sound s → Other ≡ status_from (values_of xs) None cl → Examined s k xs xs t t
+  other_examined ok e =
       record { here = row_settled s k cl is lt ok (values_of xs) e; others = λ c h. inl h; kept = λ q h. refl; grows = omega arith; gap = λ v b h. inl h; made = λ q a b. absurd (omega arith) }
 
-  pub forced-examined : Ready s xs t → (l : ℤ) → SFits w32 l → Forced l ≡ status_from (values_of xs) None cl → (ys : List (Option Bool)) → ys ≡ set xs (variable_of (to_z w32 (of_z w32 l))) (Some (positive (to_z w32 (of_z w32 l)))) → (u : Trail) → u.tail ≡ t.tail + 1 → u.literals.now ≡ set t.literals.now t.tail (to_z w32 (of_z w32 l)) → Examined s k xs ys t u
-  forced-examined ready l fits forced ys new u tail lits =
+  pub forced_examined : Ready s xs t → (l : ℤ) → SFits w32 l → Forced l ≡ status_from (values_of xs) None cl → (ys : List (Option Bool)) → ys ≡ set xs (variable_of (to_z w32 (of_z w32 l))) (Some (positive (to_z w32 (of_z w32 l)))) → (u : Trail) → u.tail ≡ t.tail + 1 → u.literals.now ≡ set t.literals.now t.tail (to_z w32 (of_z w32 l)) → Examined s k xs ys t u
+  forced_examined ready l fits forced ys new u tail lits =
       let un : Unit' (values_of xs) cl l = means_of (values_of xs) cl (Forced l) forced in
       let z : to_z w32 (of_z w32 l) ≡ l = to_z-of_z w32 l fits in
-      let v : variable_of l < length xs = unit_holds (λ m. variable_of m < length xs) (values_of xs) cl l (row-placed s k cl is lt ready.sound (length xs) ready.enough) un in
+      let v : variable_of l < length xs = unit_holds (λ m. variable_of m < length xs) (values_of xs) cl l (row_placed s k cl is lt ready.sound (length xs) ready.enough) un in
       let w : ys ≡ set xs (variable_of l) (Some (positive l)) = rw z at new in
       let q : values_of ys ≡ set_true (values_of xs) l = ap values_of w ∙ values_set xs l v in
       let m : u.literals.now ≡ set t.literals.now t.tail l = rw z at lits in
-      let room : t.tail < length t.literals.now = forced-fits s k cl is lt xs t ready l fits forced ys new in
+      let room : t.tail < length t.literals.now = forced_fits s k cl is lt xs t ready l fits forced ys new in
       let last : get_or u.literals.now t.tail (pos 0) ≡ l = ap (λ (x : List ℤ). get_or x t.tail (pos 0)) m ∙ get_or-set_same t.literals.now t.tail l (pos 0) room in
       record {
         here = rw q (rw is at (unit_settled (values_of xs) cl l un));

@@ -12,7 +12,7 @@ use Rattle.clauses.specs.declared.row.Row.{Row}
 use Rattle.clauses.specs.declared.store.Store.{Store}
 use Rattle.clauses.proofs.Keeping.{held_append, held_first, count_append}
 use Rattle.clauses.proofs.Memory.{row_speaks}
-use Rattle.clauses.proofs.Growing.{Appended, appended_of, appended-sound, appended-held, dense-push, row_old, row_new}
+use Rattle.clauses.proofs.Growing.{Appended, appended_of, appended_sound, appended_held, dense_push, row_old, row_new}
 
 -- lists that agree from n on
 pub drop_on : {X : Type 0} (xs ys : List X) (n m : ℕ) → n ≤ m → drop n xs ≡ drop n ys → drop m xs ≡ drop m ys
@@ -74,8 +74,8 @@ module _ (s t : Store) (k : ℕ) (ok : Sound s) (lt : k < s.count) (cl : Closing
   pub row_kept : row_at t.rows.now k ≡ row_at s.rows.now k
   row_kept = get_d_on t.rows.now s.rows.now t.count k no_row cl.few cl.behind
 
-  pub row-above : (t.filled ≤ (row_at t.rows.now k).start) × ((row_at t.rows.now k).start + (row_at t.rows.now k).len ≤ s.filled)
-  row-above = rw row_kept (cl.above k (omega arith) lt, ok.spans k lt)
+  pub row_above : (t.filled ≤ (row_at t.rows.now k).start) × ((row_at t.rows.now k).start + (row_at t.rows.now k).len ≤ s.filled)
+  row_above = rw row_kept (cl.above k (omega arith) lt, ok.spans k lt)
 
   same_span : span t.literals.now (row_at t.rows.now k) ≡ span s.literals.now (row_at s.rows.now k)
   same_span = rw row_kept (ap (take (row_at s.rows.now k).len) (drop_on t.literals.now s.literals.now t.filled (row_at s.rows.now k).start (cl.above k (omega arith) lt) cl.beyond))
@@ -83,8 +83,8 @@ module _ (s t : Store) (k : ℕ) (ok : Sound s) (lt : k < s.count) (cl : Closing
   held_next : held_in s.literals.now (take (k + 1) s.rows.now) ≡ held_in s.literals.now (take k s.rows.now) ++ held_in s.literals.now (row_at s.rows.now k ∷ [])
   held_next = ap (held_in s.literals.now) (take_more s.rows.now k no_row (omega (arith, ok.counted))) ∙ held_append s.literals.now (take k s.rows.now) (row_at s.rows.now k ∷ [])
 
-  pub closing-dead : (row_at t.rows.now k).live ≡ false → Closing s.rows.now s.literals.now s.count s.next s.variables t (k + 1)
-  closing-dead dead =
+  pub closing_dead : (row_at t.rows.now k).live ≡ false → Closing s.rows.now s.literals.now s.count s.next s.variables t (k + 1)
+  closing_dead dead =
       let d : (row_at s.rows.now k).live ≡ false = ap (λ (r : Row). r.live) (sym row_kept) ∙ dead in
       let none : held_in s.literals.now (row_at s.rows.now k ∷ []) ≡ [] = held_first s.literals.now (row_at s.rows.now k) [] ∙ rw d in
       record {
@@ -104,24 +104,24 @@ module _ (s t : Store) (k : ℕ) (ok : Sound s) (lt : k < s.count) (cl : Closing
         filled = cl.filled;
       }
 
-  pub closing-live : (v u : Store) → (row_at t.rows.now k).live ≡ true → Copied t v (take (row_at t.rows.now k).len (drop (row_at t.rows.now k).start t.literals.now)) → Sealed v u (row_at t.rows.now k).number (row_at t.rows.now k).len → Closing s.rows.now s.literals.now s.count s.next s.variables u (k + 1)
-  closing-live v u live cp se =
+  pub closing_live : (v u : Store) → (row_at t.rows.now k).live ≡ true → Copied t v (take (row_at t.rows.now k).len (drop (row_at t.rows.now k).start t.literals.now)) → Sealed v u (row_at t.rows.now k).number (row_at t.rows.now k).len → Closing s.rows.now s.literals.now s.count s.next s.variables u (k + 1)
+  closing_live v u live cp se =
       let r = row_at t.rows.now k in
       let c : Clause = span t.literals.now r in
-      let n : length c ≡ r.len = stretch_long t.literals.now r.start r.len (omega (arith, row-above.1, ok.within, cl.wide)) in
+      let n : length c ≡ r.len = stretch_long t.literals.now r.start r.len (omega (arith, row_above.1, ok.within, cl.wide)) in
       let a : Appended t u r.number c = appended_of t v v u r.number r.len c (sym n) cp refl refl refl refl refl se in
       let space : t.count < length t.rows.now = omega (arith, cl.few, ok.counted, cl.long) in
-      let fits : t.filled + length c ≤ length t.literals.now = omega (arith, row-above.0, row-above.1, ok.within, cl.wide) in
+      let fits : t.filled + length c ≤ length t.literals.now = omega (arith, row_above.0, row_above.1, ok.within, cl.wide) in
       let up : Under t.rows.now t.count r.number = rw row_kept (λ i h. cl.lower i k h (omega arith) lt) in
       let l : (row_at s.rows.now k).live ≡ true = ap (λ (q : Row). q.live) (sym row_kept) ∙ live in
       let num : r.number ≡ (row_at s.rows.now k).number = ap (λ (q : Row). q.number) row_kept in
       let nx : u.next ≡ s.next = se.next ∙ cp.next ∙ cl.next' in
-      let h : held u ≡ held t ++ record { number = r.number; literals = c } ∷ [] = appended-held t u r.number c cl.sound space fits a in
+      let h : held u ≡ held t ++ record { number = r.number; literals = c } ∷ [] = appended_held t u r.number c cl.sound space fits a in
       let lh : length (held u) ≡ length (held t) + 1 = ap length h ∙ length_push (held t) (record { number = r.number; literals = c }) in
       let fh : literal_count (held u) ≡ literal_count (held t) + (length c + 0) = ap literal_count h ∙ count_append (held t) (record { number = r.number; literals = c } ∷ []) in
       let one : held_in s.literals.now (row_at s.rows.now k ∷ []) ≡ record { number = r.number; literals = c } ∷ [] = held_first s.literals.now (row_at s.rows.now k) [] ∙ rw (l, num, same_span) in
       record {
-        sound = appended-sound t u r.number c cl.sound space fits a (omega (arith, row-above.0, row-above.1, ok.small)) (rw (same_span, cl.variables') (row_speaks s k ok lt)) up (omega (arith, num, ok.under k lt)) (omega (arith, cl.next'));
+        sound = appended_sound t u r.number c cl.sound space fits a (omega (arith, row_above.0, row_above.1, ok.small)) (rw (same_span, cl.variables') (row_speaks s k ok lt)) up (omega (arith, num, ok.under k lt)) (omega (arith, cl.next'));
         behind = rw (a.rows, a.count) (drop-set-lt (t.count + 1) t.rows.now t.count _ (omega arith) ∙ drop_on t.rows.now s.rows.now t.count (t.count + 1) (omega arith) cl.behind);
         beyond = rw (a.filled, se.literals) (cp.rest ∙ drop_on t.literals.now s.literals.now t.filled (t.filled + length c) (omega arith) cl.beyond);
         long = ap length a.rows ∙ length-set _ _ _ ∙ cl.long;
@@ -132,7 +132,7 @@ module _ (s t : Store) (k : ℕ) (ok : Sound s) (lt : k < s.count) (cl : Closing
         above = λ j q w. omega (arith, a.filled, cl.above k (omega arith) lt, ok.ordered k j (omega arith) w, ap (λ (z : Row). z.len) row_kept);
         lower = λ i j q w z. rw a.rows (number-below u c i j a.count space q w z (cases_lt i t.count) num);
         clauses = h ∙ rw (cl.clauses, held_next, one);
-        dense = rw (a.rows, a.count) (dense-push t.rows.now t.count _ space cl.dense refl);
+        dense = rw (a.rows, a.count) (dense_push t.rows.now t.count _ space cl.dense refl);
         count = omega (arith, a.count, cl.count, lh);
         filled = omega (arith, a.filled, cl.filled, fh);
       }

@@ -20,32 +20,32 @@ module _ (rows : List Row) (n : ℕ) (r : Row) (lt : n < length rows) where
   pub row_new : row_at (set rows n r) n ≡ r
   row_new = get_or-set_same rows n r no_row lt
 
-  spans-push : (f g : ℕ) → Spans rows n f → f ≤ g → r.start + r.len ≤ g → Spans (set rows n r) (n + 1) g
-  spans-push f g h le here =
+  spans_push : (f g : ℕ) → Spans rows n f → f ≤ g → r.start + r.len ≤ g → Spans (set rows n r) (n + 1) g
+  spans_push f g h le here =
       below_more (λ k. (row_at (set rows n r) k).start + (row_at (set rows n r) k).len ≤ g) n
       (λ k kn. rw (row_old k kn) (omega (arith, h k kn)))
       (rw row_new here)
 
-  ordered-push : (f : ℕ) → Ordered rows n → Spans rows n f → f ≤ r.start → Ordered (set rows n r) (n + 1)
-  ordered-push f h s le j k jk kn = go (cases_lt k n)
+  ordered_push : (f : ℕ) → Ordered rows n → Spans rows n f → f ≤ r.start → Ordered (set rows n r) (n + 1)
+  ordered_push f h s le j k jk kn = go (cases_lt k n)
     where
       go : (k < n) ⊎ (n ≤ k) → (row_at (set rows n r) j).start + (row_at (set rows n r) j).len ≤ (row_at (set rows n r) k).start
       go (inl q) = rw (row_old j (omega arith), row_old k q) (h j k jk q)
       go (inr q) = let e : k ≡ n = omega arith in rw (e, row_new, row_old j (omega arith)) (omega (arith, s j (omega arith)))
 
-  rising-push : Rising rows n → Under rows n r.number → Rising (set rows n r) (n + 1)
-  rising-push h up j k jk kn = go (cases_lt k n)
+  rising_push : Rising rows n → Under rows n r.number → Rising (set rows n r) (n + 1)
+  rising_push h up j k jk kn = go (cases_lt k n)
     where
       go : (k < n) ⊎ (n ≤ k) → (row_at (set rows n r) j).number < (row_at (set rows n r) k).number
       go (inl q) = rw (row_old j (omega arith), row_old k q) (h j k jk q)
       go (inr q) = let e : k ≡ n = omega arith in rw (e, row_new, row_old j (omega arith)) (up j (omega arith))
 
-  under-push : (m : ℕ) → Under rows n m → r.number < m → Under (set rows n r) (n + 1) m
-  under-push m h here =
+  under_push : (m : ℕ) → Under rows n m → r.number < m → Under (set rows n r) (n + 1) m
+  under_push m h here =
       below_more (λ k. (row_at (set rows n r) k).number < m) n (λ k kn. rw (row_old k kn) (h k kn)) (rw row_new here)
 
-  pub dense-push : Dense rows n → r.live ≡ true → Dense (set rows n r) (n + 1)
-  dense-push h here =
+  pub dense_push : Dense rows n → r.live ≡ true → Dense (set rows n r) (n + 1)
+  dense_push h here =
       below_more (λ k. (row_at (set rows n r) k).live ≡ true) n (λ k kn. rw (row_old k kn) (h k kn)) (rw row_new here)
 
 -- one more literal is copied
@@ -67,30 +67,30 @@ copying_none s c h =
 
 -- the literals now: those from before, and the clause
 module _ (old new : List ℤ) (c : Clause) (f : ℕ) (fl : f ≤ length old) (copied : take (f + length c) new ≡ take f old ++ c) where
-  len-old : length (take f old) ≡ f
-  len-old = length-take-le f old fl
+  len_old : length (take f old) ≡ f
+  len_old = length-take-le f old fl
 
-  named-copied : (variables : ℕ) → Named old f variables → Speaks c variables → Named new (f + length c) variables
-  named-copied variables h s k kn = rw (← get_or-take (f + length c) new k (pos 0) kn, copied) (go (cases_lt k f))
+  named_copied : (variables : ℕ) → Named old f variables → Speaks c variables → Named new (f + length c) variables
+  named_copied variables h s k kn = rw (← get_or-take (f + length c) new k (pos 0) kn, copied) (go (cases_lt k f))
     where
       go : (k < f) ⊎ (f ≤ k) → variable_of (get_or (take f old ++ c) k (pos 0)) - 1 < variables
-      go (inl q) = let q' : k < length (take f old) = omega (arith, len-old) in rw (get_or_append_left (take f old) c (pos 0) k q', get_or-take f old k (pos 0) q) (h k q)
-      go (inr q) = rw (get_or-append_right (take f old) c f k (pos 0) len-old q) (s (k - f) (omega arith))
+      go (inl q) = let q' : k < length (take f old) = omega (arith, len_old) in rw (get_or_append_left (take f old) c (pos 0) k q', get_or-take f old k (pos 0) q) (h k q)
+      go (inr q) = rw (get_or-append_right (take f old) c f k (pos 0) len_old q) (s (k - f) (omega arith))
 
-  span-kept : (r : Row) → r.start + r.len ≤ f → span new r ≡ span old r
-  span-kept r le =
+  span_kept : (r : Row) → r.start + r.len ≤ f → span new r ≡ span old r
+  span_kept r le =
       let n : ℕ = r.start + r.len in
-      let a : take n new ≡ take n old = sym (take-take n (f + length c) new (omega arith)) ∙ ap (take n) copied ∙ take-append-le n (take f old) c (omega (arith, len-old)) ∙ take-take n f old le in
+      let a : take n new ≡ take n old = sym (take-take n (f + length c) new (omega arith)) ∙ ap (take n) copied ∙ take-append-le n (take f old) c (omega (arith, len_old)) ∙ take-take n f old le in
       sym (drop-take r.start r.len new) ∙ ap (drop r.start) a ∙ drop-take r.start r.len old
 
-  span-new : take (length c) (drop f new) ≡ c
-  span-new = sym (drop-take f (length c) new) ∙ ap (drop f) copied ∙ drop_at (take f old) c f len-old
+  span_new : take (length c) (drop f new) ≡ c
+  span_new = sym (drop-take f (length c) new) ∙ ap (drop f) copied ∙ drop_at (take f old) c f len_old
 
-  held-copied : (rows : List Row) (n number : ℕ) → n < length rows → Spans rows n f → held_in new (take (n + 1) (set rows n (record { number = number; start = f; len = length c; live = true }))) ≡ held_in old (take n rows) ++ record { number = number; literals = c } ∷ []
-  held-copied rows n number lt s =
+  held_copied : (rows : List Row) (n number : ℕ) → n < length rows → Spans rows n f → held_in new (take (n + 1) (set rows n (record { number = number; start = f; len = length c; live = true }))) ≡ held_in old (take n rows) ++ record { number = number; literals = c } ∷ []
+  held_copied rows n number lt s =
       let r : Row = record { number = number; start = f; len = length c; live = true } in
-      let a : AllByRecursion (λ r. span new r ≡ span old r) (take n rows) = All-from_get_or (λ r. span new r ≡ span old r) (take n rows) no_row (λ i h. let q : i < n = omega (arith, length-take-le n rows (omega arith)) in rw (get_or-take n rows i no_row q) (span-kept (row_at rows i) (s i q))) in
-      ap (held_in new) (take_more_set rows n r lt) ∙ held_append new (take n rows) (r ∷ []) ∙ rw (held_same old new (take n rows) a, span-new)
+      let a : AllByRecursion (λ r. span new r ≡ span old r) (take n rows) = All-from_get_or (λ r. span new r ≡ span old r) (take n rows) no_row (λ i h. let q : i < n = omega (arith, length-take-le n rows (omega arith)) in rw (get_or-take n rows i no_row q) (span_kept (row_at rows i) (s i q))) in
+      ap (held_in new) (take_more_set rows n r lt) ∙ held_append new (take n rows) (r ∷ []) ∙ rw (held_same old new (take n rows) a, span_new)
 
 -- s with the clause c under a number is u
 pub record Appended (s u : Store) (number : ℕ) (c : Clause) : Type 0 where
@@ -113,21 +113,21 @@ appended_of s t v u number len c e cp r k f l w se =
     }
 
 module _ (s u : Store) (number : ℕ) (c : Clause) (ok : Sound s) (lt : s.count < length s.rows.now) (fits : s.filled + length c ≤ length s.literals.now) (a : Appended s u number c) where
-  pub appended-sound : s.filled + length c < 2 ^ 32 → Speaks c s.variables → Under s.rows.now s.count number → number < u.next → s.next ≤ u.next → Sound u
-  appended-sound small speaks up below more =
+  pub appended_sound : s.filled + length c < 2 ^ 32 → Speaks c s.variables → Under s.rows.now s.count number → number < u.next → s.next ≤ u.next → Sound u
+  appended_sound small speaks up below more =
       record {
         counted = rw (a.rows, a.count, length-set s.rows.now s.count r) (omega arith);
         small = omega (arith, a.filled);
         within = omega (arith, a.filled, a.long);
-        spans = rw (a.rows, a.count, a.filled) (spans-push s.rows.now s.count r lt s.filled (s.filled + length c) ok.spans (omega arith) (omega arith));
-        ordered = rw (a.rows, a.count) (ordered-push s.rows.now s.count r lt s.filled ok.ordered ok.spans (omega arith));
-        rising = rw (a.rows, a.count) (rising-push s.rows.now s.count r lt ok.rising up);
-        under = rw (a.rows, a.count) (under-push s.rows.now s.count r lt u.next (λ k kn. omega (arith, ok.under k kn)) below);
-        named = rw (a.filled, a.variables) (named-copied s.literals.now u.literals.now c s.filled ok.within a.copied s.variables ok.named speaks);
+        spans = rw (a.rows, a.count, a.filled) (spans_push s.rows.now s.count r lt s.filled (s.filled + length c) ok.spans (omega arith) (omega arith));
+        ordered = rw (a.rows, a.count) (ordered_push s.rows.now s.count r lt s.filled ok.ordered ok.spans (omega arith));
+        rising = rw (a.rows, a.count) (rising_push s.rows.now s.count r lt ok.rising up);
+        under = rw (a.rows, a.count) (under_push s.rows.now s.count r lt u.next (λ k kn. omega (arith, ok.under k kn)) below);
+        named = rw (a.filled, a.variables) (named_copied s.literals.now u.literals.now c s.filled ok.within a.copied s.variables ok.named speaks);
       }
     where
       r : Row
       r = record { number = number; start = s.filled; len = length c; live = true }
 
-  pub appended-held : held u ≡ held s ++ record { number = number; literals = c } ∷ []
-  appended-held = rw (a.rows, a.count) (held-copied s.literals.now u.literals.now c s.filled ok.within a.copied s.rows.now s.count number lt ok.spans)
+  pub appended_held : held u ≡ held s ++ record { number = number; literals = c } ∷ []
+  appended_held = rw (a.rows, a.count) (held_copied s.literals.now u.literals.now c s.filled ok.within a.copied s.rows.now s.count number lt ok.spans)

@@ -17,10 +17,10 @@ use Rattle.clauses.specs.declared.trail.Trail.{Trail}
 use Rattle.clauses.proofs.Theory.{reached_more, reached_none, value_below, settled_refuted}
 use Rattle.clauses.proofs.Hits.{satisfied_below, against_code}
 use Rattle.clauses.proofs.Links.{on_bound, on_set, on_none, on_step, below_push}
-use Rattle.clauses.proofs.Entries.{listed_kept, listed-new, code_bound}
+use Rattle.clauses.proofs.Entries.{listed_kept, listed_new, code_bound}
 use Rattle.clauses.proofs.Counts.{late}
-use Rattle.clauses.proofs.OneRow.{row_named, row-short, rows_settled}
-use Rattle.clauses.proofs.Spots.{spots_none, spots_below, spots-more}
+use Rattle.clauses.proofs.OneRow.{row_named, row_short, rows_settled}
+use Rattle.clauses.proofs.Spots.{spots_none, spots_below, spots_more}
 use Rattle.clauses.proofs.Pairs.{one_unset, pair_settled}
 
 -- every literal of a row has a list
@@ -45,8 +45,8 @@ grown_more x y z g h =
     }
 
 module _ (x y : Index) (code owner : ℕ) (ok : Linked x) (lt : code < x.lists) (nl : x.used < length x.next.now) (ol : x.used < length x.owners.now) (used : y.used ≡ x.used + 1) (lists : y.lists ≡ x.lists) (heads : y.heads.now ≡ set x.heads.now code (x.used + 1)) (next : y.next.now ≡ set x.next.now x.used (get_or x.heads.now code 0)) (owners : y.owners.now ≡ set x.owners.now x.used owner) where
-  pub grown-enter : Grown x y
-  grown-enter =
+  pub grown_enter : Grown x y
+  grown_enter =
       record {
         lists = lists;
         more = omega arith;
@@ -62,9 +62,9 @@ module _ (x y : Index) (code owner : ℕ) (ok : Linked x) (lt : code < x.lists) 
   enlisted s place w g linked k is new =
       record {
         guards = record { linked = linked; heads = rw lists g.heads; next = rw (next, length-set x.next.now x.used (get_or x.heads.now code 0)) g.next; owners = rw (owners, length-set x.owners.now x.used owner) g.owners; owned = rw (owners, used) (below_push x.owners.now x.used s.count owner ol k g.owned) };
-        grown = grown-enter;
+        grown = grown_enter;
         uses = inr (used, new);
-        joined = inr (inr (subst (λ (z : ℕ). Listed y z owner) is (listed-new x y code owner ok lt nl ol heads next owners)));
+        joined = inr (inr (subst (λ (z : ℕ). Listed y z owner) is (listed_new x y code owner ok lt nl ol heads next owners)));
       }
 
 -- a look at a clause, as a move
@@ -92,8 +92,8 @@ module _ (xs ys : List (Option Bool)) (t u : Trail) (m : Moved xs ys t u) where
   waits_on : (low : ℕ) (l : ℤ) → Waits t low l → Waits u low l
   waits_on low l h = (h.0, h.1, omega (arith, h.2, m.grows), subst (λ (z : ℤ). Against z l) (sym (m.kept h.0 h.2)) h.3)
 
-  opens-on : (low : ℕ) (l : ℤ) → low ≤ t.tail → is_false (value (values_of xs) l) ≡ false → (is_false (value (values_of ys) l) ≡ false) ⊎ Waits u low l
-  opens-on low l le h = go (value (values_of ys) l) refl
+  opens_on : (low : ℕ) (l : ℤ) → low ≤ t.tail → is_false (value (values_of xs) l) ≡ false → (is_false (value (values_of ys) l) ≡ false) ⊎ Waits u low l
+  opens_on low l le h = go (value (values_of ys) l) refl
     where
       fell : (value (values_of xs) l ≡ Some false) ⊎ ((q : ℕ) × (t.tail ≤ q) × (q < u.tail) × Against (get_or u.literals.now q (pos 0)) l) → (is_false (value (values_of ys) l) ≡ false) ⊎ Waits u low l
       fell (inl e) = let z : ◌≡◌ {A = Bool} true false = sym (rw e) ∙ h in let i : ◌≡◌ {A = ℕ} 0 1 = cc in absurd (omega arith)
@@ -106,8 +106,8 @@ module _ (xs ys : List (Option Bool)) (t u : Trail) (m : Moved xs ys t u) where
 
 -- after a visit of row r
 module _ (s : Store) (r : ℕ) (x y : Index) (w v : List ℕ) (xs ys : List (Option Bool)) (t u : Trail) (ok : Sound s) (guards : Guards s x) (vis : Visited s r x y w v xs ys t u) (low link link' : ℕ) (ahead : low ≤ t.tail) where
-  watch-on : (k p p' : ℕ) → k < s.count → p' ≡ p → (Rest x k link → Rest y k link') → Watch s x xs t low link k p → Watch s y ys u low link' k p'
-  watch-on k p p' lt e rest h = rw e (record {
+  watch_on : (k p p' : ℕ) → k < s.count → p' ≡ p → (Rest x k link → Rest y k link') → Watch s x xs t low link k p → Watch s y ys u low link' k p'
+  watch_on k p p' lt e rest h = rw e (record {
     within = h.within;
     listed = vis.grown.listed (code_of (get_or (clause_at s k) p (pos 0))) k (code_listed s x k p ok guards lt h.within) h.listed;
     good = go h.good;
@@ -121,19 +121,19 @@ module _ (s : Store) (r : ℕ) (x y : Index) (w v : List ℕ) (xs ys : List (Opt
       open' (inr i) = inr (inl i)
 
       go : (false_at xs (clause_at s k) p ≡ false) ⊎ (Waits t low l ⊎ Rest x k link) → (false_at ys (clause_at s k) p ≡ false) ⊎ (Waits u low l ⊎ Rest y k link')
-      go (inl i) = open' (opens-on xs ys t u vis.moved low l ahead i)
+      go (inl i) = open' (opens_on xs ys t u vis.moved low l ahead i)
       go (inr (inl i)) = inr (inl (waits_on xs ys t u vis.moved low l i))
       go (inr (inr i)) = inr (inr (rest i))
 
-  pub other-guarded : (k : ℕ) → k < s.count → (k ≡ r → ⊥) → (Rest x k link → Rest y k link') → Guarded s x w xs t low link k → Guarded s y v ys u low link' k
-  other-guarded k lt ne rest (inl h) = inl (satisfied_below (values_of xs) (values_of ys) vis.moved.below (clause_at s k) h)
-  other-guarded k lt ne rest (inr h) =
+  pub other_guarded : (k : ℕ) → k < s.count → (k ≡ r → ⊥) → (Rest x k link → Rest y k link') → Guarded s x w xs t low link k → Guarded s y v ys u low link' k
+  other_guarded k lt ne rest (inl h) = inl (satisfied_below (values_of xs) (values_of ys) vis.moved.below (clause_at s k) h)
+  other_guarded k lt ne rest (inr h) =
       let a : get_or v (2 * k) 0 ≡ get_or w (2 * k) 0 = vis.others (2 * k) (λ e. ne (omega arith)) (λ e. omega arith) in
       let b : get_or v (2 * k + 1) 0 ≡ get_or w (2 * k + 1) 0 = vis.others (2 * k + 1) (λ e. omega arith) (λ e. ne (omega arith)) in
-      inr (record { apart = λ e. h.apart (sym a ∙ e ∙ b); first = watch-on k _ _ lt a rest h.first; second = watch-on k _ _ lt b rest h.second })
+      inr (record { apart = λ e. h.apart (sym a ∙ e ∙ b); first = watch_on k _ _ lt a rest h.first; second = watch_on k _ _ lt b rest h.second })
 
-  pub here-guarded : T (satisfied (values_of xs) (clause_at s r)) ⊎ ((p : ℕ) → p < length (clause_at s r) → Joined s r p w y → Listed y (code_of (get_or (clause_at s r) p (pos 0))) r) → Guarded s y v ys u low link' r
-  here-guarded old = go vis.here old
+  pub here_guarded : T (satisfied (values_of xs) (clause_at s r)) ⊎ ((p : ℕ) → p < length (clause_at s r) → Joined s r p w y → Listed y (code_of (get_or (clause_at s r) p (pos 0))) r) → Guarded s y v ys u low link' r
+  here_guarded old = go vis.here old
     where
       go : T (satisfied (values_of ys) (clause_at s r)) ⊎ Renewed s r w v y ys → T (satisfied (values_of xs) (clause_at s r)) ⊎ ((p : ℕ) → p < length (clause_at s r) → Joined s r p w y → Listed y (code_of (get_or (clause_at s r) p (pos 0))) r) → Guarded s y v ys u low link' r
       go (inl h) o = inl h
@@ -173,10 +173,10 @@ watchful_more s x y w v xs ys t u low link r ok some own rc vis h =
     was (inr i) = inr (λ p pl. joined_listed s x y w xs t low link r p ok h.guards vis.grown rc i)
 
     row : (k : ℕ) → k < s.count → (k ≡ r) ⊎ (k ≡ r → ⊥) → Guarded s x w xs t low link k → Guarded s y v ys u low (get_or x.next.now (link - 1) 0) k
-    row k kc (inr ne) i = other-guarded s r x y w v xs ys t u ok h.guards vis low link _ h.ahead k kc ne (on k ne) i
+    row k kc (inr ne) i = other_guarded s r x y w v xs ys t u ok h.guards vis low link _ h.ahead k kc ne (on k ne) i
     row k kc (inl e) i =
         subst (λ (z : ℕ). Guarded s y v ys u low (get_or x.next.now (link - 1) 0) z) (sym e)
-        (here-guarded s r x y w v xs ys t u ok h.guards vis low link _ h.ahead (was (subst (λ (z : ℕ). Guarded s x w xs t low link z) e i)))
+        (here_guarded s r x y w v xs ys t u ok h.guards vis low link _ h.ahead (was (subst (λ (z : ℕ). Guarded s x w xs t low link z) e i)))
 
 -- the literal at head is taken up: the rows that wait for it are on the list of its opposite
 pub watchful_none : (s : Store) (x : Index) (w : List ℕ) (xs : List (Option Bool)) (t : Trail) (head code : ℕ) → head < t.tail → code < x.lists → code ≡ code_against (get_or t.literals.now head (pos 0)) → Watchful s x w xs t head 0 → Watchful s x w xs t (head + 1) (get_or x.heads.now code 0)
@@ -243,14 +243,14 @@ begun_more s x₀ x y w v xs ys zs t u z k lt b r ready vis room =
       ready = ready;
       guards = vis.guards;
       spots = vis.spots;
-      rows = below_more (λ j. Guarded s y v zs z 0 0 j) k (λ j jk. other-guarded s k x y w v ys zs u z ready.sound b.guards vis 0 0 0 (omega arith) j (omega arith) (λ e. omega arith) (λ i. absurd (on_none x.next.now 0 i.0 refl i.1)) (b.rows j jk)) (here-guarded s k x y w v ys zs u z ready.sound b.guards vis 0 0 0 (omega arith) (inr listed));
+      rows = below_more (λ j. Guarded s y v zs z 0 0 j) k (λ j jk. other_guarded s k x y w v ys zs u z ready.sound b.guards vis 0 0 0 (omega arith) j (omega arith) (λ e. omega arith) (λ i. absurd (on_none x.next.now 0 i.0 refl i.1)) (b.rows j jk)) (here_guarded s k x y w v ys zs u z ready.sound b.guards vis 0 0 0 (omega arith) (inr listed));
       nowhere = λ j le jc. vis.others j (λ e. omega arith) (λ e. omega arith) ∙ b.nowhere j (omega arith) jc;
       same = record { heads = vis.grown.same.heads ∙ b.same.heads; next = vis.grown.same.next ∙ b.same.next; owners = vis.grown.same.owners ∙ b.same.owners };
       room = room ∙ b.room;
     }
   where
     short : length (clause_at s k) < 2 ^ 32
-    short = row-short s k (clause_at s k) refl lt ready.sound
+    short = row_short s k (clause_at s k) refl lt ready.sound
 
     listed : (p : ℕ) → p < length (clause_at s k) → Joined s k p w y → Listed y (code_of (get_or (clause_at s k) p (pos 0))) k
     listed p pl (inl e) = absurd (omega (arith, b.nowhere (2 * k) (omega arith) (omega arith), short))
@@ -283,14 +283,14 @@ joined_on s k p w x y ok g lt pl grown (inr (inr l)) = inr (inr (grown.listed _ 
 
 -- two places of row k are watched now, one after the other
 module _ (s : Store) (k p q old other : ℕ) (w : List ℕ) (x y z : Index) (xs : List (Option Bool)) (t : Trail) (ok : Sound s) (lt : k < s.count) (wide : 2 * k + 1 < length w) (pair : Pair xs (clause_at s k) p q) (one : Enlisted s k p w x y) where
-  first-there : get_or (set w (2 * k) p) (2 * k) 0 ≡ p
-  first-there = get_or-set_same w (2 * k) p 0 (omega arith)
+  first_there : get_or (set w (2 * k) p) (2 * k) 0 ≡ p
+  first_there = get_or-set_same w (2 * k) p 0 (omega arith)
 
-  second-there : get_or (set w (2 * k) p) (2 * k + 1) 0 ≡ get_or w (2 * k + 1) 0
-  second-there = let ne : 2 * k + 1 ≢ 2 * k = (λ e. omega arith) in get_or-set_other w (2 * k) (2 * k + 1) p 0 ne
+  second_there : get_or (set w (2 * k) p) (2 * k + 1) 0 ≡ get_or w (2 * k + 1) 0
+  second_there = let ne : 2 * k + 1 ≢ 2 * k = (λ e. omega arith) in get_or-set_other w (2 * k) (2 * k + 1) p 0 ne
 
-  pub first-spots : old ≡ get_or w (2 * k) 0 → (old < length (clause_at s k) → false_at xs (clause_at s k) old ≡ false → p ≡ old) → Spotted s x.used xs w → Spotted s y.used xs (set w (2 * k) p)
-  first-spots is keep h = spots-more s k p x.used xs w ok lt pair.first pair.first_open h y.used (2 * k) _ one.uses refl (omega arith) (inl refl) drops
+  pub first_spots : old ≡ get_or w (2 * k) 0 → (old < length (clause_at s k) → false_at xs (clause_at s k) old ≡ false → p ≡ old) → Spotted s x.used xs w → Spotted s y.used xs (set w (2 * k) p)
+  first_spots is keep h = spots_more s k p x.used xs w ok lt pair.first pair.first_open h y.used (2 * k) _ one.uses refl (omega arith) (inl refl) drops
     where
       drops : (r : ℕ) → r < length (clause_at s k) → get_or w (2 * k) 0 ≡ r → (false_at xs (clause_at s k) r ≡ true) ⊎ Watches (set w (2 * k) p) k r
       drops r rl e = go (false_at xs (clause_at s k) r) refl
@@ -300,16 +300,16 @@ module _ (s : Store) (k p q old other : ℕ) (w : List ℕ) (x y z : Index) (xs 
 
           go : (b : Bool) → false_at xs (clause_at s k) r ≡ b → (false_at xs (clause_at s k) r ≡ true) ⊎ Watches (set w (2 * k) p) k r
           go true i = inl i
-          go false i = inr (inl (first-there ∙ keep (rw same rl) (rw same i) ∙ same))
+          go false i = inr (inl (first_there ∙ keep (rw same rl) (rw same i) ∙ same))
 
-  pub second-spots : other ≡ get_or w (2 * k + 1) 0 → Kept xs (clause_at s k) other p q → Enlisted s k q (set w (2 * k) p) y z → Spotted s y.used xs (set w (2 * k) p) → Spotted s z.used xs (set (set w (2 * k) p) (2 * k + 1) q)
-  second-spots is keep two h = spots-more s k q y.used xs (set w (2 * k) p) ok lt pair.second pair.second_open h z.used (2 * k + 1) _ two.uses refl (simp length-set wide) (inr refl) drops
+  pub second_spots : other ≡ get_or w (2 * k + 1) 0 → Kept xs (clause_at s k) other p q → Enlisted s k q (set w (2 * k) p) y z → Spotted s y.used xs (set w (2 * k) p) → Spotted s z.used xs (set (set w (2 * k) p) (2 * k + 1) q)
+  second_spots is keep two h = spots_more s k q y.used xs (set w (2 * k) p) ok lt pair.second pair.second_open h z.used (2 * k + 1) _ two.uses refl (simp length-set wide) (inr refl) drops
     where
       drops : (r : ℕ) → r < length (clause_at s k) → get_or (set w (2 * k) p) (2 * k + 1) 0 ≡ r → (false_at xs (clause_at s k) r ≡ true) ⊎ Watches (set (set w (2 * k) p) (2 * k + 1) q) k r
       drops r rl e = go (false_at xs (clause_at s k) r) refl
         where
           same : other ≡ r
-          same = is ∙ sym second-there ∙ e
+          same = is ∙ sym second_there ∙ e
 
           kept : (p ≡ other) ⊎ (q ≡ other) → Watches (set (set w (2 * k) p) (2 * k + 1) q) k r
           kept (inl i) = inl (places_first w k p q wide ∙ i ∙ same)
@@ -319,8 +319,8 @@ module _ (s : Store) (k p q old other : ℕ) (w : List ℕ) (x y z : Index) (xs 
           go true i = inl i
           go false i = inr (kept (keep (rw same rl) (rw same i)))
 
-  pub visited-pair : Enlisted s k q (set w (2 * k) p) y z → Spotted s z.used xs (set (set w (2 * k) p) (2 * k + 1) q) → Visited s k x z w (set (set w (2 * k) p) (2 * k + 1) q) xs xs t t
-  visited-pair two spots =
+  pub visited_pair : Enlisted s k q (set w (2 * k) p) y z → Spotted s z.used xs (set (set w (2 * k) p) (2 * k + 1) q) → Visited s k x z w (set (set w (2 * k) p) (2 * k + 1) q) xs xs t t
+  visited_pair two spots =
       record {
         guards = two.guards;
         grown = grown_more x y z one.grown two.grown;
@@ -335,8 +335,8 @@ module _ (s : Store) (k p q old other : ℕ) (w : List ℕ) (x y z : Index) (xs 
       }
     where
       back : Joined s k q (set w (2 * k) p) z → Joined s k q w z
-      back (inl e) = absurd (pair.apart (sym first-there ∙ e))
-      back (inr (inl e)) = inr (inl (sym second-there ∙ e))
+      back (inl e) = absurd (pair.apart (sym first_there ∙ e))
+      back (inr (inl e)) = inr (inl (sym second_there ∙ e))
       back (inr (inr l)) = inr (inr l)
 
 -- a clause with no two places open was looked at

@@ -32,27 +32,27 @@ module _ (s : Store) (k : ℕ) (cl : Clause) (is : cl ≡ span s.literals.now (r
   pub row_named : Speaks cl s.variables
   row_named = rw is (row_speaks s k ok lt)
 
-  pub row-placed : (n : ℕ) → s.variables ≤ n - 1 → Placed cl n
-  row-placed n more = speaks_placed cl s.variables n more row_named
+  pub row_placed : (n : ℕ) → s.variables ≤ n - 1 → Placed cl n
+  row_placed n more = speaks_placed cl s.variables n more row_named
 
-  pub row-short : length cl < 2 ^ 32
-  row-short =
+  pub row_short : length cl < 2 ^ 32
+  row_short =
       let r = row_at s.rows.now k in
       let a : r.start + r.len ≤ s.filled = ok.spans k lt in
       let b : length cl ≤ r.len = rw is (simp length-take (omega arith)) in
       omega (arith, ok.small)
 
-  pub row-conflict : (f g : Values) → (row_at s.rows.now k).live ≡ true → Reached (held s) f g → Conflict ≡ status_from g None cl → Refuted (held s) f
-  row-conflict f g live r e = refuted_at (held s) f g _ cl r (at_row live) (means_of g cl Conflict e)
+  pub row_conflict : (f g : Values) → (row_at s.rows.now k).live ≡ true → Reached (held s) f g → Conflict ≡ status_from g None cl → Refuted (held s) f
+  row_conflict f g live r e = refuted_at (held s) f g _ cl r (at_row live) (means_of g cl Conflict e)
 
-  pub row-literal : (g : Values) (l : ℤ) → SFits w32 l → Forced l ≡ status_from g None cl → variable_of (to_z w32 (of_z w32 l)) - 1 < s.variables
-  row-literal g l fits e = rw (to_z-of_z w32 l fits) (unit_holds (λ m. variable_of m - 1 < s.variables) g cl l row_named (means_of g cl (Forced l) e))
+  pub row_literal : (g : Values) (l : ℤ) → SFits w32 l → Forced l ≡ status_from g None cl → variable_of (to_z w32 (of_z w32 l)) - 1 < s.variables
+  row_literal g l fits e = rw (to_z-of_z w32 l fits) (unit_holds (λ m. variable_of m - 1 < s.variables) g cl l row_named (means_of g cl (Forced l) e))
 
   -- the values xs, with the forced literal made true, are ys
-  pub row-forced : (f : Values) (xs ys : List (Option Bool)) (l : ℤ) → (row_at s.rows.now k).live ≡ true → s.variables ≤ length xs - 1 → Reached (held s) f (values_of xs) → SFits w32 l → Forced l ≡ status_from (values_of xs) None cl → ys ≡ set xs (variable_of (to_z w32 (of_z w32 l))) (Some (positive (to_z w32 (of_z w32 l)))) → Reached (held s) f (values_of ys) × (unset_count ys < unset_count xs)
-  row-forced f xs ys l live more r fits e new =
+  pub row_forced : (f : Values) (xs ys : List (Option Bool)) (l : ℤ) → (row_at s.rows.now k).live ≡ true → s.variables ≤ length xs - 1 → Reached (held s) f (values_of xs) → SFits w32 l → Forced l ≡ status_from (values_of xs) None cl → ys ≡ set xs (variable_of (to_z w32 (of_z w32 l))) (Some (positive (to_z w32 (of_z w32 l)))) → Reached (held s) f (values_of ys) × (unset_count ys < unset_count xs)
+  row_forced f xs ys l live more r fits e new =
       let u : Unit' (values_of xs) cl l = means_of (values_of xs) cl (Forced l) e in
-      let v : variable_of l < length xs = unit_holds (λ m. variable_of m < length xs) (values_of xs) cl l (row-placed (length xs) more) u in
+      let v : variable_of l < length xs = unit_holds (λ m. variable_of m < length xs) (values_of xs) cl l (row_placed (length xs) more) u in
       let w : ys ≡ set xs (variable_of l) (Some (positive l)) = rw (to_z-of_z w32 l fits) at new in
       let q : values_of ys ≡ set_true (values_of xs) l = ap values_of w ∙ values_set xs l v in
       let p : suc (unset_count (set xs (variable_of l) (Some (positive l)))) ≡ unset_count xs = unset_less xs (variable_of l) (positive l) v (unset_means (values_of xs) l u.unset) in

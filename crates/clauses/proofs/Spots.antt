@@ -82,15 +82,15 @@ module _ (s : Store) (k place used : ℕ) (xs : List (Option Bool)) (w : List �
   abbrev extended : ℕ → ℕ
   extended e = cond (eqb e used) at (h.spot e)
 
-  extended-new : extended used ≡ at
-  extended-new = go (eqb used used) refl
+  extended_new : extended used ≡ at
+  extended_new = go (eqb used used) refl
     where
       go : (b : Bool) → eqb used used ≡ b → cond b at (h.spot used) ≡ at
       go true e = refl
       go false e = absurd (eqb-false used used e refl)
 
-  extended-old : (e : ℕ) → e < used → extended e ≡ h.spot e
-  extended-old e lt = go (eqb e used) refl
+  extended_old : (e : ℕ) → e < used → extended e ≡ h.spot e
+  extended_old e lt = go (eqb e used) refl
     where
       go : (b : Bool) → eqb e used ≡ b → cond b at (h.spot e) ≡ h.spot e
       go true i = absurd (omega (arith, eqb-true e used i))
@@ -103,29 +103,29 @@ module _ (s : Store) (k place used : ℕ) (xs : List (Option Bool)) (w : List �
       go (inl f) = false≢true (sym open' ∙ f)
       go (inr f) = new f
 
-  inside-more : (e : ℕ) → e < used + 1 → extended e < s.filled
-  inside-more e lt = go (cases_lt e used)
+  inside_more : (e : ℕ) → e < used + 1 → extended e < s.filled
+  inside_more e lt = go (cases_lt e used)
     where
       go : (e < used) ⊎ (used ≤ e) → extended e < s.filled
-      go (inl i) = rw (extended-old e i) (h.inside e i)
-      go (inr i) = let q : e ≡ used = omega arith in rw (q, extended-new) (omega (arith, ok.spans k kc, clause_long s k))
+      go (inl i) = rw (extended_old e i) (h.inside e i)
+      go (inr i) = let q : e ≡ used = omega arith in rw (q, extended_new) (omega (arith, ok.spans k kc, clause_long s k))
 
   apart_more : (Watches w k place → ⊥) → (d e : ℕ) → d < e → e < used + 1 → extended d ≡ extended e → ⊥
   apart_more new d e de lt = go (cases_lt e used)
     where
       go : (e < used) ⊎ (used ≤ e) → extended d ≡ extended e → ⊥
-      go (inl i) q = h.apart d e de i (sym (extended-old d (omega arith)) ∙ q ∙ extended-old e i)
+      go (inl i) q = h.apart d e de i (sym (extended_old d (omega arith)) ∙ q ∙ extended_old e i)
       go (inr i) q =
           let z : e ≡ used = omega arith in
-          unspotted new d (omega arith) (sym (extended-old d (omega arith)) ∙ q ∙ ap extended z ∙ extended-new)
+          unspotted new d (omega arith) (sym (extended_old d (omega arith)) ∙ q ∙ ap extended z ∙ extended_new)
 
   -- so there is room for its entry
-  pub spots-room : (Watches w k place → ⊥) → used < s.filled
-  spots-room new = omega (arith, pigeon s.filled (used + 1) extended inside-more (apart_more new))
+  pub spots_room : (Watches w k place → ⊥) → used < s.filled
+  spots_room new = omega (arith, pigeon s.filled (used + 1) extended inside_more (apart_more new))
 
   -- the slot watches the place now, and what it watched before is false or still watched
-  pub spots-more : (now slot : ℕ) (v : List ℕ) → ((now ≡ used) × Watches w k place) ⊎ ((now ≡ used + 1) × (Watches w k place → ⊥)) → v ≡ set w slot place → slot < length w → (slot ≡ 2 * k) ⊎ (slot ≡ 2 * k + 1) → ((p : ℕ) → p < length (clause_at s k) → get_or w slot 0 ≡ p → (false_at xs (clause_at s k) p ≡ true) ⊎ Watches v k p) → Spotted s now xs v
-  spots-more now slot v uses is sl which drops = go uses
+  pub spots_more : (now slot : ℕ) (v : List ℕ) → ((now ≡ used) × Watches w k place) ⊎ ((now ≡ used + 1) × (Watches w k place → ⊥)) → v ≡ set w slot place → slot < length w → (slot ≡ 2 * k) ⊎ (slot ≡ 2 * k + 1) → ((p : ℕ) → p < length (clause_at s k) → get_or w slot 0 ≡ p → (false_at xs (clause_at s k) p ≡ true) ⊎ Watches v k p) → Spotted s now xs v
+  spots_more now slot v uses is sl which drops = go uses
     where
       there : Watches v k place
       there = go' which
@@ -169,11 +169,11 @@ module _ (s : Store) (k place used : ℕ) (xs : List (Option Bool)) (w : List �
       go (inl u) =
           record { spot = h.spot; inside = λ e lt. h.inside e (omega (arith, u.0)); apart = λ d e de lt. h.apart d e de (omega (arith, u.0)); stale = λ j p e jc jl lt i. on j p jc jl (h.stale j p e jc jl (omega (arith, u.0)) i) }
       go (inr u) =
-          record { spot = extended; inside = λ e lt. inside-more e (omega (arith, u.0)); apart = λ d e de lt. apart_more u.1 d e de (omega (arith, u.0)); stale = λ j p e jc jl lt i. last j p e jc jl (omega (arith, u.0)) i (cases_lt e used) }
+          record { spot = extended; inside = λ e lt. inside_more e (omega (arith, u.0)); apart = λ d e de lt. apart_more u.1 d e de (omega (arith, u.0)); stale = λ j p e jc jl lt i. last j p e jc jl (omega (arith, u.0)) i (cases_lt e used) }
         where
           last : (j p e : ℕ) → j < s.count → p < length (clause_at s j) → e < used + 1 → extended e ≡ (row_at s.rows.now j).start + p → (e < used) ⊎ (used ≤ e) → (false_at xs (clause_at s j) p ≡ true) ⊎ Watches v j p
-          last j p e jc jl lt i (inl a) = on j p jc jl (h.stale j p e jc jl a (sym (extended-old e a) ∙ i))
+          last j p e jc jl lt i (inl a) = on j p jc jl (h.stale j p e jc jl a (sym (extended_old e a) ∙ i))
           last j p e jc jl lt i (inr a) =
               let z : e ≡ used = omega arith in
-              let same = same_place s k j place p ok kc jc pl jl (sym extended-new ∙ ap extended (sym z) ∙ i) in
+              let same = same_place s k j place p ok kc jc pl jl (sym extended_new ∙ ap extended (sym z) ∙ i) in
               inr (subst (λ (q : ℕ). Watches v j q) same.1 (subst (λ (q : ℕ). Watches v q place) same.0 there))

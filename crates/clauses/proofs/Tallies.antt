@@ -23,8 +23,8 @@ module _ (next owners heads : List ℕ) (n code w : ℕ) (f : Falling next n) (n
   first k m le t = subst (λ (z : ℕ). Tally (set next n (get_or heads code 0)) (set owners n w) k z m) (sym (get_or-set_same next n (get_or heads code 0) 0 nl)) (tally_set next owners k n (get_or heads code 0) w (get_or heads code 0) m f le t)
 
   -- the lists after a new entry n in front of the list of code
-  pub tally-kept : (k c m : ℕ) → get_or heads c 0 ≤ n → Tally next owners k (get_or heads c 0) m → Tally (set next n (get_or heads code 0)) (set owners n w) k (get_or (set heads code (n + 1)) c 0) m
-  tally-kept k c m le t = go (cases_eq c code)
+  pub tally_kept : (k c m : ℕ) → get_or heads c 0 ≤ n → Tally next owners k (get_or heads c 0) m → Tally (set next n (get_or heads code 0)) (set owners n w) k (get_or (set heads code (n + 1)) c 0) m
+  tally_kept k c m le t = go (cases_eq c code)
     where
       go : (c ≡ code) ⊎ (c ≡ code → ⊥) → Tally (set next n (get_or heads code 0)) (set owners n w) k (get_or (set heads code (n + 1)) c 0) m
       go (inl q) =
@@ -34,8 +34,8 @@ module _ (next owners heads : List ℕ) (n code w : ℕ) (f : Falling next n) (n
           subst (λ (z : ℕ). Tally (set next n (get_or heads code 0)) (set owners n w) k z m) (sym a) (skip (first k m le' t'))
       go (inr q) = rw (get_or-set_other heads code c (n + 1) 0 q) (tally_set next owners k n (get_or heads code 0) w (get_or heads c 0) m f le t)
 
-  pub tally-new : (m : ℕ) → get_or heads code 0 ≤ n → Tally next owners w (get_or heads code 0) m → Tally (set next n (get_or heads code 0)) (set owners n w) w (get_or (set heads code (n + 1)) code 0) (suc m)
-  tally-new m le t =
+  pub tally_new : (m : ℕ) → get_or heads code 0 ≤ n → Tally next owners w (get_or heads code 0) m → Tally (set next n (get_or heads code 0)) (set owners n w) w (get_or (set heads code (n + 1)) code 0) (suc m)
+  tally_new m le t =
       subst (λ (z : ℕ). Tally (set next n (get_or heads code 0)) (set owners n w) w z (suc m)) (sym (get_or-set_same heads code (n + 1) 0 cl ∙ add-one n))
       (one (get_or-set_same owners n w 0 ol) (first w m le t))
 

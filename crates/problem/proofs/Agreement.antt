@@ -72,8 +72,8 @@ some_swap p t (x ∷ xs) = pick (p x) (t x) refl refl (some_swap p t xs)
     pick false false e f g = g
 
 module _ (s : Chosen) where
-  no-is : (v : ℕ) → 1 ≤ v → is_true s (neg v) ≡ not (s v)
-  no-is v h = ap (λ w. not (s w)) (back v h)
+  no_is : (v : ℕ) → 1 ≤ v → is_true s (neg v) ≡ not (s v)
+  no_is v h = ap (λ w. not (s w)) (back v h)
 
   swap_or : (a b c : Bool) → (a || (b || c)) ≡ (b || (a || c))
   swap_or true true c = refl
@@ -81,16 +81,16 @@ module _ (s : Chosen) where
   swap_or false b c = refl
 
   put_is : (i : ℕ) (js : List ℕ) → 1 ≤ i → makes_true s (put i js) ≡ (not (s i) || some s js)
-  put_is i [] h = ap (λ y. y || false) (no-is i h)
+  put_is i [] h = ap (λ y. y || false) (no_is i h)
   put_is i (j ∷ js) h =
       elim (ltb i j) as (λ b. makes_true s (cond b (neg i ∷ each lit (j ∷ js)) (lit j ∷ put i js)) ≡ (not (s i) || (s j || some s js))) [
-        | true ↦ ap (λ y. y || some (is_true s) (each lit (j ∷ js))) (no-is i h) ∙ ap (λ y. not (s i) || y) (some_of_each (is_true s) lit (j ∷ js))
+        | true ↦ ap (λ y. y || some (is_true s) (each lit (j ∷ js))) (no_is i h) ∙ ap (λ y. not (s i) || y) (some_of_each (is_true s) lit (j ∷ js))
         | false ↦ ap (λ y. s j || y) (put_is i js h) ∙ swap_or (s j) (not (s i)) (some s js)
       ]
 
-  if-iff : (a b : Bool) → T (not a || b) ↔ (T a → T b)
-  if-iff true b = ((λ h _. h), λ h. h tt)
-  if-iff false b = ((λ h w. absurd w), λ h. tt)
+  if_iff : (a b : Bool) → T (not a || b) ↔ (T a → T b)
+  if_iff true b = ((λ h _. h), λ h. h tt)
+  if_iff false b = ((λ h w. absurd w), λ h. tt)
 
   among : (i : ℕ) (js : List ℕ) → T (some (eqb i) js) → T (s i) → T (some s js)
   among i [] h t = h
@@ -108,21 +108,21 @@ module _ (s : Chosen) where
           more true h = tt
           more false h = h
 
-  needs-iff : (i : ℕ) (js : List ℕ) → 1 ≤ i → Each (True s) (needs i js) ↔ (T (s i) → T (some s js))
-  needs-iff i js h = pick (some (eqb i) js) refl
+  needs_iff : (i : ℕ) (js : List ℕ) → 1 ≤ i → Each (True s) (needs i js) ↔ (T (s i) → T (some s js))
+  needs_iff i js h = pick (some (eqb i) js) refl
     where
       pick : (b : Bool) → some (eqb i) js ≡ b → Each (True s) (cond b [] (put i js ∷ [])) ↔ (T (s i) → T (some s js))
       pick true e = ((λ _. among i js (subst T (sym e) tt)), λ _. tt)
       pick false e = (
-        (λ k. (if-iff (s i) (some s js)).0 (subst T (put_is i js h) k.0)),
-        λ k. (subst T (sym (put_is i js h)) ((if-iff (s i) (some s js)).1 k), tt),
+        (λ k. (if_iff (s i) (some s js)).0 (subst T (put_is i js h) k.0)),
+        λ k. (subst T (sym (put_is i js h)) ((if_iff (s i) (some s js)).1 k), tt),
       )
 
-  notBoth-iff : (i j : ℕ) → 1 ≤ i → 1 ≤ j → True s (not_both i j) ↔ (T (s i) → T (s j) → ⊥)
-  notBoth-iff i j h k =
+  not_both_iff : (i j : ℕ) → 1 ≤ i → 1 ≤ j → True s (not_both i j) ↔ (T (s i) → T (s j) → ⊥)
+  not_both_iff i j h k =
       elim (ltb i j) as (λ b. True s (cond b (neg i ∷ neg j ∷ []) (neg j ∷ neg i ∷ [])) ↔ (T (s i) → T (s j) → ⊥)) [
-        | true ↦ Iff.trans (bool_iff (ap (λ y. y || (is_true s (neg j) || false)) (no-is i h) ∙ ap (λ y. not (s i) || (y || false)) (no-is j k))) (either (s i) (s j))
-        | false ↦ Iff.trans (bool_iff (ap (λ y. y || (is_true s (neg i) || false)) (no-is j k) ∙ ap (λ y. not (s j) || (y || false)) (no-is i h))) (turned (s j) (s i))
+        | true ↦ Iff.trans (bool_iff (ap (λ y. y || (is_true s (neg j) || false)) (no_is i h) ∙ ap (λ y. not (s i) || (y || false)) (no_is j k))) (either (s i) (s j))
+        | false ↦ Iff.trans (bool_iff (ap (λ y. y || (is_true s (neg i) || false)) (no_is j k) ∙ ap (λ y. not (s j) || (y || false)) (no_is i h))) (turned (s j) (s i))
       ]
     where
       either : (a b : Bool) → T (not a || (not b || false)) ↔ (T a → T b → ⊥)
@@ -133,8 +133,8 @@ module _ (s : Chosen) where
       turned : (a b : Bool) → T (not a || (not b || false)) ↔ (T b → T a → ⊥)
       turned a b = Iff.trans (either a b) ((λ f x y. f y x), λ f x y. f y x)
 
-  one-no-iff : (j : ℕ) → 1 ≤ j → True s (neg j ∷ []) ↔ (T (s j) → ⊥)
-  one-no-iff j h = Iff.trans (bool_iff (ap (λ y. y || false) (no-is j h))) (denied (s j))
+  one_no_iff : (j : ℕ) → 1 ≤ j → True s (neg j ∷ []) ↔ (T (s j) → ⊥)
+  one_no_iff j h = Iff.trans (bool_iff (ap (λ y. y || false) (no_is j h))) (denied (s j))
     where
       denied : (a : Bool) → T (not a || false) ↔ (T a → ⊥)
       denied true = ((λ h. absurd h), λ h. h tt)
@@ -182,8 +182,8 @@ module _ (s : Chosen) where
             (T (not b) → True s (not_both i.number j.number)) ↔ (T (s i.number) → T (s j.number) → j.number ≡ i.number)
         one j o' true e = ((λ _ _ _. sym (eqb→eq i.number j.number (subst T (sym e) tt))), λ _ w. absurd w)
         one j o' false e = (
-          (λ f a b. absurd ((notBoth-iff i.number j.number o o').0 (f tt) a b)),
-          λ f _. (notBoth-iff i.number j.number o o').1 (λ a b. subst T e (subst (λ y. T (eqb i.number y)) (sym (f a b)) (eqb_refl i.number))),
+          (λ f a b. absurd ((not_both_iff i.number j.number o o').0 (f tt) a b)),
+          λ f _. (not_both_iff i.number j.number o o').1 (λ a b. subst T e (subst (λ y. T (eqb i.number y)) (sym (f a b)) (eqb_refl i.number))),
         )
 
     abbrev Depends : Numbered → Type 0
@@ -204,7 +204,7 @@ module _ (s : Chosen) where
         con c = each (not_both i.number) (keep (λ j. not (eqb i.number j)) (meeting q (c ∷ [])))
 
         meets : (cs : List Constraint) → Each (True s) (dep cs) ↔ (T (s i.number) → T (some (satisfies_one cs) (chosen q s)))
-        meets cs = Iff.trans (needs-iff i.number (meeting q cs) o) ((λ f a. subst T (met-is cs) (f a)), λ f a. subst T (sym (met-is cs)) (f a))
+        meets cs = Iff.trans (needs_iff i.number (meeting q cs) o) ((λ f a. subst T (met-is cs) (f a)), λ f a. subst T (sym (met-is cs)) (f a))
 
         one : Each (True s) (each_all dep i.stanza.depends) ↔ (T (s i.number) → Depends i)
         one =
@@ -243,7 +243,7 @@ module _ (s : Chosen) where
         Iff.trans (all_iff (True s) (λ c. each (λ j. neg j ∷ []) (meeting q (c ∷ []))) q.remove)
         (each_since_iff (λ c. Each (True s) (each (λ j. neg j ∷ []) (meeting q (c ∷ [])))) (λ c. Each (λ j. T (satisfies c j.stanza) → ⊥) (chosen q s))
         (λ c. Iff.trans (map_iff (True s) (λ j. neg j ∷ []) (meeting q (c ∷ [])))
-        (Iff.trans (meeting-iff c (λ j. True s (neg j ∷ [])) (λ j. T (s j) → ⊥) (λ j o. one-no-iff j.number o))
+        (Iff.trans (meeting-iff c (λ j. True s (neg j ∷ [])) (λ j. T (s j) → ⊥) (λ j o. one_no_iff j.number o))
         (chosen-iff c (λ j. ⊥)))) q.remove)
 
 plan_iff : (q : Problem) (s : Chosen) → T (every (makes_true s) (plan_clauses q)) ↔ PlanOverSets q s

@@ -29,21 +29,21 @@ module _ (text : List ℕ) (ps : List Package) (n : ℕ) (table : List Standing)
   abbrev after : Begun → Result Answering AnswerFault
   after b = Ok (record { draft = Some b; begun = next_begun (draft_in text last.draft) last.begun; table = table })
 
-  step-taken : (r : Result Head ProblemFault) → eqb (length l) 0 ≡ false → Some p ≡ property l → full ≡ leb 256 last.begun → ok_mapped (head_of text) r ≡ drafted n full (draft_in text last.draft) p → then (in_answer (ok_mapped (head_of text) r)) after ≡ step_answer ps n (answering_of text table last) l
-  step-taken r e q f h = ap (λ x. then (in_answer x) after) (h ∙ ap (λ b. drafted n b (draft_in text last.draft) p) f) ∙ rw (e, ← q) refl
+  step_taken : (r : Result Head ProblemFault) → eqb (length l) 0 ≡ false → Some p ≡ property l → full ≡ leb 256 last.begun → ok_mapped (head_of text) r ≡ drafted n full (draft_in text last.draft) p → then (in_answer (ok_mapped (head_of text) r)) after ≡ step_answer ps n (answering_of text table last) l
+  step_taken r e q f h = ap (λ x. then (in_answer x) after) (h ∙ ap (λ b. drafted n b (draft_in text last.draft) p) f) ∙ rw (e, ← q) refl
 
-  next-is : (o : Option Head) → cond (is_some o) last.begun (last.begun + 1) ≡ next_begun (draft_in text o) last.begun
-  next-is None = refl
-  next-is (Some h) = refl
+  next_is : (o : Option Head) → cond (is_some o) last.begun (last.begun + 1) ≡ next_begun (draft_in text o) last.begun
+  next_is None = refl
+  next_is (Some h) = refl
 
-  pub step-refused : (x : ProblemFault) → eqb (length l) 0 ≡ false → Some p ≡ property l → full ≡ leb 256 last.begun → Err x ≡ drafted n full (draft_in text last.draft) p → Err (Document x) ≡ step_answer ps n (answering_of text table last) l
-  step-refused x e q f h = step-taken (Err x) e q f h
+  pub step_refused : (x : ProblemFault) → eqb (length l) 0 ≡ false → Some p ≡ property l → full ≡ leb 256 last.begun → Err x ≡ drafted n full (draft_in text last.draft) p → Err (Document x) ≡ step_answer ps n (answering_of text table last) l
+  step_refused x e q f h = step_taken (Err x) e q f h
 
-  pub step-accepted : (h : Head) (r : Reading) → eqb (length l) 0 ≡ false → Some p ≡ property l → full ≡ leb 256 last.begun → Ok (head_of text h) ≡ drafted n full (draft_in text last.draft) p → r ≡ record { draft = Some h; begun = cond (is_some last.draft) last.begun (last.begun + 1) } → Ok (answering_of text table r) ≡ step_answer ps n (answering_of text table last) l
-  step-accepted h r e q f g i =
+  pub step_accepted : (h : Head) (r : Reading) → eqb (length l) 0 ≡ false → Some p ≡ property l → full ≡ leb 256 last.begun → Ok (head_of text h) ≡ drafted n full (draft_in text last.draft) p → r ≡ record { draft = Some h; begun = cond (is_some last.draft) last.begun (last.begun + 1) } → Ok (answering_of text table r) ≡ step_answer ps n (answering_of text table last) l
+  step_accepted h r e q f g i =
       ap (λ x. Ok (answering_of text table x)) i
-      ∙ ap (λ m. Ok (record { draft = Some (head_of text h); begun = m; table = table })) (next-is last.draft)
-      ∙ step-taken (Ok h) e q f g
+      ∙ ap (λ m. Ok (record { draft = Some (head_of text h); begun = m; table = table })) (next_is last.draft)
+      ∙ step_taken (Ok h) e q f g
 
 pub begun_few : (o : Option Head) (m n : ℕ) → m < n → cond (is_some o) m (m + 1) ≤ n
 begun_few None m n h = omega arith

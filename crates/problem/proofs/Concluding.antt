@@ -26,11 +26,11 @@ module _ (text : List ℕ) (d : Doc) (k : Limits) (ps qs : List PackageRow) (cs 
   pub read_twice : (n : ℕ) → Ok (state_of text ps cs p) ≡ run k 0 start d → Ok (state_of text qs cs last) ≡ closed k.packages (state_of text ps cs p) → last.request ≡ Some w → Some n ≡ repeated_in text [] qs → Err (Twice n) ≡ read_doc k d
   read_twice n a b e h = sym (read_at a b e ∙ ap (distinct_only (state_of text qs cs last) (sought_of text cs w)) (sym h))
 
-  packages-in-words : (rows : List PackageRow) → each (λ g. g.package') (map (given_of text cs) rows) ≡ each (package_of text cs) rows
-  packages-in-words [] = refl
-  packages-in-words (x ∷ rows) = ap (λ t. package_of text cs x ∷ t) (packages-in-words rows)
+  packages_in_words : (rows : List PackageRow) → each (λ g. g.package') (map (given_of text cs) rows) ≡ each (package_of text cs) rows
+  packages_in_words [] = refl
+  packages_in_words (x ∷ rows) = ap (λ t. package_of text cs x ∷ t) (packages_in_words rows)
 
   pub read_whole : Ok (state_of text ps cs p) ≡ run k 0 start d → Ok (state_of text qs cs last) ≡ closed k.packages (state_of text ps cs p) → last.request ≡ Some w → None ≡ repeated_in text [] qs → Ok (problem_in text qs cs w) ≡ read_doc k d
   read_whole a b e h =
-      rw (list_given text cs w.install, list_given text cs w.remove, ← packages-in-words qs) refl
+      rw (list_given text cs w.install, list_given text cs w.remove, ← packages_in_words qs) refl
       ∙ sym (read_at a b e ∙ ap (distinct_only (state_of text qs cs last) (sought_of text cs w)) (sym h))

@@ -7,7 +7,7 @@ use Rattle.problem.specs.Feeding.{Fed, Left}
 use Rattle.problem.specs.Meaning.{front, conjuncts}
 use Rattle.problem.specs.Stanzas.{conjunct_len}
 use Rattle.problem.specs.declared.rows.ConstraintRow.{ConstraintRow}
-use Rattle.problem.proofs.Feeds.{left-more, left-stop, left-all}
+use Rattle.problem.proofs.Feeds.{left_more, left_stop, left_all}
 
 -- a row in front of the first conjunct
 abbrev Longer : ConstraintRow → List ConstraintRow → Type 0
@@ -28,19 +28,19 @@ conjuncts_step (c ∷ cs) l = first_conjunct c cs
 
 -- the walk to the end of the first conjunct
 module _ (cs : List ConstraintRow) (i : ℕ) where
-  pub conjunct-ends : (d : ConstraintRow) → i < length cs → (get_or cs i d).last ≡ true → i + conjunct_len (drop i cs) ≡ conjunct_len cs → i + 1 ≡ conjunct_len cs
-  conjunct-ends d l e h =
+  pub conjunct_ends : (d : ConstraintRow) → i < length cs → (get_or cs i d).last ≡ true → i + conjunct_len (drop i cs) ≡ conjunct_len cs → i + 1 ≡ conjunct_len cs
+  conjunct_ends d l e h =
       let f : conjunct_len (drop i cs) ≡ cond (get_or cs i d).last 1 (suc (conjunct_len (drop (i + 1) cs))) = at_drop_more conjunct_len cs i d l in
       ap (λ n. i + n) (sym (f ∙ ap (λ b. cond b 1 (suc (conjunct_len (drop (i + 1) cs)))) e)) ∙ h
 
-  pub conjunct-goes : (d : ConstraintRow) → i < length cs → (get_or cs i d).last ≡ false → i + conjunct_len (drop i cs) ≡ conjunct_len cs → (i + 1) + conjunct_len (drop (i + 1) cs) ≡ conjunct_len cs
-  conjunct-goes d l e h =
+  pub conjunct_goes : (d : ConstraintRow) → i < length cs → (get_or cs i d).last ≡ false → i + conjunct_len (drop i cs) ≡ conjunct_len cs → (i + 1) + conjunct_len (drop (i + 1) cs) ≡ conjunct_len cs
+  conjunct_goes d l e h =
       let f : conjunct_len (drop i cs) ≡ cond (get_or cs i d).last 1 (suc (conjunct_len (drop (i + 1) cs))) = at_drop_more conjunct_len cs i d l in
       let g : conjunct_len (drop i cs) ≡ suc (conjunct_len (drop (i + 1) cs)) = f ∙ ap (λ b. cond b 1 (suc (conjunct_len (drop (i + 1) cs)))) e in
       omega (arith, g, h)
 
-  pub conjunct-runs-out : length cs ≤ i → i + conjunct_len (drop i cs) ≡ conjunct_len cs → i ≡ conjunct_len cs
-  conjunct-runs-out l h = let f : conjunct_len (drop i cs) ≡ 0 = at_drop_all conjunct_len cs i l in omega (arith, f, h)
+  pub conjunct_runs_out : length cs ≤ i → i + conjunct_len (drop i cs) ≡ conjunct_len cs → i ≡ conjunct_len cs
+  conjunct_runs_out l h = let f : conjunct_len (drop i cs) ≡ 0 = at_drop_all conjunct_len cs i l in omega (arith, f, h)
 
 -- the first rows of what is left
 pub first_left : (cs : List ConstraintRow) (i n : ℕ) → take (n - 0) (take (length cs - i) (drop i cs)) ≡ take n (drop i cs)
@@ -57,11 +57,11 @@ module _ {S : Type 0} (goes stops : S → Clause → S → Type 0) (f : List Con
       subst (λ gs. Left goes stops whole start (each_all f gs) s) z k
 
   pub conjuncts-more : Fed goes stops (f xs) true s t → Left goes stops whole start (each_all f (conjuncts (drop (i + n) cs))) t
-  conjuncts-more = left-more goes stops whole (f xs) (each_all f (conjuncts (drop (i + n) cs))) start s t stepped
+  conjuncts-more = left_more goes stops whole (f xs) (each_all f (conjuncts (drop (i + n) cs))) start s t stepped
 
   pub conjuncts-stop : Fed goes stops (f xs) false s t → Fed goes stops whole false start t
-  conjuncts-stop = left-stop goes stops whole (f xs) (each_all f (conjuncts (drop (i + n) cs))) start s t stepped
+  conjuncts-stop = left_stop goes stops whole (f xs) (each_all f (conjuncts (drop (i + n) cs))) start s t stepped
 
 pub conjuncts_all : {S : Type 0} (goes stops : S → Clause → S → Type 0) (f : List ConstraintRow → List Clause) (whole : List Clause) (start s : S) (cs : List ConstraintRow) (i : ℕ) → length cs ≤ i →
     Left goes stops whole start (each_all f (conjuncts (drop i cs))) s → Fed goes stops whole true start s
-conjuncts_all goes stops f whole start s cs i l k = left-all goes stops whole start s (subst (λ ys. Left goes stops whole start (each_all f (conjuncts ys)) s) (drop_all i cs l) k)
+conjuncts_all goes stops f whole start s cs i l k = left_all goes stops whole start s (subst (λ ys. Left goes stops whole start (each_all f (conjuncts ys)) s) (drop_all i cs l) k)

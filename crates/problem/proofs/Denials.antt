@@ -6,8 +6,8 @@ use Rattle.problem.specs.Feeding.{Fed, Left}
 use Rattle.problem.specs.PlanClauses.{not_both}
 use Rattle.problem.specs.Stanzas.{passing, denials}
 use Rattle.problem.specs.declared.rows.PackageRow.{PackageRow}
-use Rattle.problem.proofs.Feeds.{left-more, left-stop, left-all}
-use Rattle.problem.proofs.Passing.{passing_step, passing-end}
+use Rattle.problem.proofs.Feeds.{left_more, left_stop, left_all}
+use Rattle.problem.proofs.Passing.{passing_step, passing_end}
 
 denials_first : (o : Option ℕ) (j : ℕ) (js : List ℕ) → denials o (j ∷ js) ≡ denials o (j ∷ []) ++ denials o js
 denials_first None j js = refl
@@ -24,16 +24,16 @@ module _ {S : Type 0} (goes stops : S → Clause → S → Type 0) (o : Option �
         (ap (denials o) (passing_step t ps 0 i d true l e ∙ ap (λ n. suc n ∷ passing t (0 + (i + 1)) (drop (i + 1) ps)) z) ∙ denials_first o (suc i) (passing t (0 + (i + 1)) (drop (i + 1) ps))) k
 
     pub denials-more : t (get_or ps i d) ≡ true → (s'' : S) → Fed goes stops (denials o (suc i ∷ [])) true s s'' → s' ≡ s'' → Left goes stops whole start (denials o (passing t (0 + (i + 1)) (drop (i + 1) ps))) s'
-    denials-more e s'' h f = left-more goes stops whole (denials o (suc i ∷ [])) (denials o (passing t (0 + (i + 1)) (drop (i + 1) ps))) start s s' (met e) (subst (λ u. Fed goes stops (denials o (suc i ∷ [])) true s u) (sym f) h)
+    denials-more e s'' h f = left_more goes stops whole (denials o (suc i ∷ [])) (denials o (passing t (0 + (i + 1)) (drop (i + 1) ps))) start s s' (met e) (subst (λ u. Fed goes stops (denials o (suc i ∷ [])) true s u) (sym f) h)
 
     pub denials-stop : t (get_or ps i d) ≡ true → Fed goes stops (denials o (suc i ∷ [])) false s s' → Fed goes stops whole false start s'
-    denials-stop e = left-stop goes stops whole (denials o (suc i ∷ [])) (denials o (passing t (0 + (i + 1)) (drop (i + 1) ps))) start s s' (met e)
+    denials-stop e = left_stop goes stops whole (denials o (suc i ∷ [])) (denials o (passing t (0 + (i + 1)) (drop (i + 1) ps))) start s s' (met e)
 
     pub denials-same : t (get_or ps i d) ≡ false → s' ≡ s → Left goes stops whole start (denials o (passing t (0 + (i + 1)) (drop (i + 1) ps))) s'
     denials-same e f = subst (λ u. Left goes stops whole start (denials o (passing t (0 + (i + 1)) (drop (i + 1) ps))) u) (sym f) (subst (λ js. Left goes stops whole start (denials o js) s) (passing_step t ps 0 i d false l e) k)
 
-  pub denials-all : length ps ≤ i → Left goes stops whole start (denials o (passing t (0 + i) (drop i ps))) s → Fed goes stops whole true start s
-  denials-all l k = left-all goes stops whole start s (subst (λ js. Left goes stops whole start js s) (ap (denials o) (passing-end t ps 0 i l) ∙ none o) k)
+  pub denials_all : length ps ≤ i → Left goes stops whole start (denials o (passing t (0 + i) (drop i ps))) s → Fed goes stops whole true start s
+  denials_all l k = left_all goes stops whole start s (subst (λ js. Left goes stops whole start js s) (ap (denials o) (passing_end t ps 0 i l) ∙ none o) k)
     where
       none : (p : Option ℕ) → denials p [] ≡ []
       none None = refl

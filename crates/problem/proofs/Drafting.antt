@@ -50,26 +50,26 @@ span_stays xs ys s i h =
     sym (take-take s.len (n - s.first) (drop s.first ys) (omega arith)) ∙ ap (take s.len) (sym d) ∙ ap (λ t. span_in t s) h
 
 module _ (text : List ℕ) (cs ds : List ConstraintRow) (front : take (length cs) ds ≡ cs) where
-  pub list-stays : (s : Span) → Spanned (length cs) s → list_of text ds s ≡ list_of text cs s
-  list-stays s i = ap (λ t. each (constraint_of text) t) (span_stays cs ds s i front)
+  pub list_stays : (s : Span) → Spanned (length cs) s → list_of text ds s ≡ list_of text cs s
+  list_stays s i = ap (λ t. each (constraint_of text) t) (span_stays cs ds s i front)
 
-  pub conjuncts-stay : (s : Span) → Spanned (length cs) s → conjuncts_of text ds s ≡ conjuncts_of text cs s
-  conjuncts-stay s i = ap (λ t. each (each (constraint_of text)) (conjuncts t)) (span_stays cs ds s i front)
+  pub conjuncts_stay : (s : Span) → Spanned (length cs) s → conjuncts_of text ds s ≡ conjuncts_of text cs s
+  conjuncts_stay s i = ap (λ t. each (each (constraint_of text)) (conjuncts t)) (span_stays cs ds s i front)
 
-  lists-stay : (o : Option Span) → IfSome o (Spanned (length cs)) → option_map (list_of text ds) o ≡ option_map (list_of text cs) o
-  lists-stay None i = refl
-  lists-stay (Some s) i = ap Some (list-stays s i)
+  lists_stay : (o : Option Span) → IfSome o (Spanned (length cs)) → option_map (list_of text ds) o ≡ option_map (list_of text cs) o
+  lists_stay None i = refl
+  lists_stay (Some s) i = ap Some (list_stays s i)
 
-  all-conjuncts-stay : (o : Option Span) → IfSome o (Spanned (length cs)) → option_map (conjuncts_of text ds) o ≡ option_map (conjuncts_of text cs) o
-  all-conjuncts-stay None i = refl
-  all-conjuncts-stay (Some s) i = ap Some (conjuncts-stay s i)
+  all_conjuncts_stay : (o : Option Span) → IfSome o (Spanned (length cs)) → option_map (conjuncts_of text ds) o ≡ option_map (conjuncts_of text cs) o
+  all_conjuncts_stay None i = refl
+  all_conjuncts_stay (Some s) i = ap Some (conjuncts_stay s i)
 
-  pub wanted-stays : (w : Wanted) → WantedOk (length cs) w → sought_of text ds w ≡ sought_of text cs w
-  wanted-stays w i = rw (lists-stay w.install i.install, lists-stay w.remove i.remove) refl
+  pub wanted_stays : (w : Wanted) → WantedOk (length cs) w → sought_of text ds w ≡ sought_of text cs w
+  wanted_stays w i = rw (lists_stay w.install i.install, lists_stay w.remove i.remove) refl
 
   -- the dependencies were read
-  pub with-depends-is : (d : Draft) (limit n : ℕ) (v : List ℕ) (r : Result Span ProblemFault) → DraftOk (length text) (length cs) d → ok_mapped (λ s. (conjuncts_of text ds s, length ds)) r ≡ once n d.depends (conjoined limit (length cs) n (conjunct_list v)) → ok_mapped (draft_at text ds) (ok_mapped (λ s. record { head = d.head; depends = Some s; conflicts = d.conflicts }) r) ≡ extended_by limit n (draft_at text cs d) v (Some Depends)
-  with-depends-is d limit n v r i h =
+  pub with_depends_is : (d : Draft) (limit n : ℕ) (v : List ℕ) (r : Result Span ProblemFault) → DraftOk (length text) (length cs) d → ok_mapped (λ s. (conjuncts_of text ds s, length ds)) r ≡ once n d.depends (conjoined limit (length cs) n (conjunct_list v)) → ok_mapped (draft_at text ds) (ok_mapped (λ s. record { head = d.head; depends = Some s; conflicts = d.conflicts }) r) ≡ extended_by limit n (draft_at text cs d) v (Some Depends)
+  with_depends_is d limit n v r i h =
       at r ∙ ap (λ x. then x after) h ∙ once-then n d.depends (conjoined limit (length cs) n (conjunct_list v)) after
       ∙ sym (once_mapped n (conjuncts_of text cs) d.depends (then (conjoined limit (length cs) n (conjunct_list v)) after))
     where
@@ -77,11 +77,11 @@ module _ (text : List ℕ) (cs ds : List ConstraintRow) (front : take (length cs
       after p = Ok (record { head = head_of text d.head; depends = Some p.0; conflicts = option_map (list_of text cs) d.conflicts }, p.1)
 
       at : (r : Result Span ProblemFault) → ok_mapped (draft_at text ds) (ok_mapped (λ s. record { head = d.head; depends = Some s; conflicts = d.conflicts }) r) ≡ then (ok_mapped (λ s. (conjuncts_of text ds s, length ds)) r) after
-      at (Ok s) = ap (λ x. Ok (record { head = head_of text d.head; depends = Some (conjuncts_of text ds s); conflicts = x }, length ds)) (lists-stay d.conflicts i.conflicts)
+      at (Ok s) = ap (λ x. Ok (record { head = head_of text d.head; depends = Some (conjuncts_of text ds s); conflicts = x }, length ds)) (lists_stay d.conflicts i.conflicts)
       at (Err e) = refl
 
-  pub with-conflicts-is : (d : Draft) (limit n : ℕ) (v : List ℕ) (r : Result Span ProblemFault) → DraftOk (length text) (length cs) d → ok_mapped (λ s. (list_of text ds s, length ds)) r ≡ once n d.conflicts (listed limit (length cs) n (constraint_list v)) → ok_mapped (draft_at text ds) (ok_mapped (λ s. record { head = d.head; depends = d.depends; conflicts = Some s }) r) ≡ extended_by limit n (draft_at text cs d) v (Some Conflicts)
-  with-conflicts-is d limit n v r i h =
+  pub with_conflicts_is : (d : Draft) (limit n : ℕ) (v : List ℕ) (r : Result Span ProblemFault) → DraftOk (length text) (length cs) d → ok_mapped (λ s. (list_of text ds s, length ds)) r ≡ once n d.conflicts (listed limit (length cs) n (constraint_list v)) → ok_mapped (draft_at text ds) (ok_mapped (λ s. record { head = d.head; depends = d.depends; conflicts = Some s }) r) ≡ extended_by limit n (draft_at text cs d) v (Some Conflicts)
+  with_conflicts_is d limit n v r i h =
       at r ∙ ap (λ x. then x after) h ∙ once-then n d.conflicts (listed limit (length cs) n (constraint_list v)) after
       ∙ sym (once_mapped n (list_of text cs) d.conflicts (then (listed limit (length cs) n (constraint_list v)) after))
     where
@@ -89,11 +89,11 @@ module _ (text : List ℕ) (cs ds : List ConstraintRow) (front : take (length cs
       after p = Ok (record { head = head_of text d.head; depends = option_map (conjuncts_of text cs) d.depends; conflicts = Some p.0 }, p.1)
 
       at : (r : Result Span ProblemFault) → ok_mapped (draft_at text ds) (ok_mapped (λ s. record { head = d.head; depends = d.depends; conflicts = Some s }) r) ≡ then (ok_mapped (λ s. (list_of text ds s, length ds)) r) after
-      at (Ok s) = ap (λ x. Ok (record { head = head_of text d.head; depends = x; conflicts = Some (list_of text ds s) }, length ds)) (all-conjuncts-stay d.depends i.depends)
+      at (Ok s) = ap (λ x. Ok (record { head = head_of text d.head; depends = x; conflicts = Some (list_of text ds s) }, length ds)) (all_conjuncts_stay d.depends i.depends)
       at (Err e) = refl
 
-  pub with-install-is : (w : Wanted) (limit n : ℕ) (v : List ℕ) (r : Result Span ProblemFault) → WantedOk (length cs) w → ok_mapped (λ s. (list_of text ds s, length ds)) r ≡ once n w.install (listed limit (length cs) n (constraint_list v)) → ok_mapped (sought_at text ds) (ok_mapped (λ s. record { install = Some s; remove = w.remove }) r) ≡ requested_by limit n (sought_at text cs w) v (Some Install)
-  with-install-is w limit n v r i h =
+  pub with_install_is : (w : Wanted) (limit n : ℕ) (v : List ℕ) (r : Result Span ProblemFault) → WantedOk (length cs) w → ok_mapped (λ s. (list_of text ds s, length ds)) r ≡ once n w.install (listed limit (length cs) n (constraint_list v)) → ok_mapped (sought_at text ds) (ok_mapped (λ s. record { install = Some s; remove = w.remove }) r) ≡ requested_by limit n (sought_at text cs w) v (Some Install)
+  with_install_is w limit n v r i h =
       at r ∙ ap (λ x. then x after) h ∙ once-then n w.install (listed limit (length cs) n (constraint_list v)) after
       ∙ sym (once_mapped n (list_of text cs) w.install (then (listed limit (length cs) n (constraint_list v)) after))
     where
@@ -101,11 +101,11 @@ module _ (text : List ℕ) (cs ds : List ConstraintRow) (front : take (length cs
       after p = Ok (record { install = Some p.0; remove = option_map (list_of text cs) w.remove }, p.1)
 
       at : (r : Result Span ProblemFault) → ok_mapped (sought_at text ds) (ok_mapped (λ s. record { install = Some s; remove = w.remove }) r) ≡ then (ok_mapped (λ s. (list_of text ds s, length ds)) r) after
-      at (Ok s) = ap (λ x. Ok (record { install = Some (list_of text ds s); remove = x }, length ds)) (lists-stay w.remove i.remove)
+      at (Ok s) = ap (λ x. Ok (record { install = Some (list_of text ds s); remove = x }, length ds)) (lists_stay w.remove i.remove)
       at (Err e) = refl
 
-  pub with-remove-is : (w : Wanted) (limit n : ℕ) (v : List ℕ) (r : Result Span ProblemFault) → WantedOk (length cs) w → ok_mapped (λ s. (list_of text ds s, length ds)) r ≡ once n w.remove (listed limit (length cs) n (constraint_list v)) → ok_mapped (sought_at text ds) (ok_mapped (λ s. record { install = w.install; remove = Some s }) r) ≡ requested_by limit n (sought_at text cs w) v (Some Remove)
-  with-remove-is w limit n v r i h =
+  pub with_remove_is : (w : Wanted) (limit n : ℕ) (v : List ℕ) (r : Result Span ProblemFault) → WantedOk (length cs) w → ok_mapped (λ s. (list_of text ds s, length ds)) r ≡ once n w.remove (listed limit (length cs) n (constraint_list v)) → ok_mapped (sought_at text ds) (ok_mapped (λ s. record { install = w.install; remove = Some s }) r) ≡ requested_by limit n (sought_at text cs w) v (Some Remove)
+  with_remove_is w limit n v r i h =
       at r ∙ ap (λ x. then x after) h ∙ once-then n w.remove (listed limit (length cs) n (constraint_list v)) after
       ∙ sym (once_mapped n (list_of text cs) w.remove (then (listed limit (length cs) n (constraint_list v)) after))
     where
@@ -113,7 +113,7 @@ module _ (text : List ℕ) (cs ds : List ConstraintRow) (front : take (length cs
       after p = Ok (record { install = option_map (list_of text cs) w.install; remove = Some p.0 }, p.1)
 
       at : (r : Result Span ProblemFault) → ok_mapped (sought_at text ds) (ok_mapped (λ s. record { install = w.install; remove = Some s }) r) ≡ then (ok_mapped (λ s. (list_of text ds s, length ds)) r) after
-      at (Ok s) = ap (λ x. Ok (record { install = x; remove = Some (list_of text ds s) }, length ds)) (lists-stay w.install i.install)
+      at (Ok s) = ap (λ x. Ok (record { install = x; remove = Some (list_of text ds s) }, length ds)) (lists_stay w.install i.install)
       at (Err e) = refl
 
 -- runs stay among rows that grow

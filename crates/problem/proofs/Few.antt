@@ -45,8 +45,8 @@ module _ (v : View) where
   rows_few : length (constraints_in v) ≤ 1024
   rows_few = omega (arith, length-take v.asked v.constraints.now, v.constraints_few)
 
-  meeting-few : (cs : List Constraint) → length (meeting (problem_of v) cs) ≤ 256
-  meeting-few cs =
+  meeting_few : (cs : List Constraint) → length (meeting (problem_of v) cs) ≤ 256
+  meeting_few cs =
       omega (
         arith,
         length-map (keep (satisfies_one cs) (stanzas (problem_of v))) (λ k. k.number),
@@ -56,37 +56,37 @@ module _ (v : View) where
         v.packages_few,
       )
 
-  list-few : (s : Span) → length (each (constraint_of v.text.now) (span_in (constraints_in v) s)) ≤ 1024
-  list-few s = omega (arith, length-map (span_in (constraints_in v) s) (constraint_of v.text.now), span_few (constraints_in v) s, rows_few)
+  list_few : (s : Span) → length (each (constraint_of v.text.now) (span_in (constraints_in v) s)) ≤ 1024
+  list_few s = omega (arith, length-map (span_in (constraints_in v) s) (constraint_of v.text.now), span_few (constraints_in v) s, rows_few)
 
-  groups-few : (s : Span) → length (each (each (constraint_of v.text.now)) (conjuncts (span_in (constraints_in v) s))) ≤ 1024
-  groups-few s = omega (arith, length-map (conjuncts (span_in (constraints_in v) s)) (each (constraint_of v.text.now)), conjuncts_few (span_in (constraints_in v) s), span_few (constraints_in v) s, rows_few)
+  groups_few : (s : Span) → length (each (each (constraint_of v.text.now)) (conjuncts (span_in (constraints_in v) s))) ≤ 1024
+  groups_few s = omega (arith, length-map (conjuncts (span_in (constraints_in v) s)) (each (constraint_of v.text.now)), conjuncts_few (span_in (constraints_in v) s), span_few (constraints_in v) s, rows_few)
 
-  conflict-few : (i : ℕ) (c : Constraint) → length (of_conflict (problem_of v) i c) ≤ 256
-  conflict-few i c =
+  conflict_few : (i : ℕ) (c : Constraint) → length (of_conflict (problem_of v) i c) ≤ 256
+  conflict_few i c =
       let t : ℕ → Bool = λ j. not (eqb i j) in
-      omega (arith, length-map (keep t (meeting (problem_of v) (c ∷ []))) (not_both i), keep_few t (meeting (problem_of v) (c ∷ [])), meeting-few (c ∷ []))
+      omega (arith, length-map (keep t (meeting (problem_of v) (c ∷ []))) (not_both i), keep_few t (meeting (problem_of v) (c ∷ [])), meeting_few (c ∷ []))
 
-  remove-few : (c : Constraint) → length (of_remove (problem_of v) c) ≤ 256
-  remove-few c = omega (arith, length-map (meeting (problem_of v) (c ∷ [])) (λ j. neg j ∷ []), meeting-few (c ∷ []))
+  remove_few : (c : Constraint) → length (of_remove (problem_of v) c) ≤ 256
+  remove_few c = omega (arith, length-map (meeting (problem_of v) (c ∷ [])) (λ j. neg j ∷ []), meeting_few (c ∷ []))
 
-  stanza-few : (i : Numbered) → (length i.stanza.depends ≤ 1024) × (length i.stanza.conflicts ≤ 1024) → length (of_stanza (problem_of v) i) ≤ 263168
-  stanza-few i h =
+  stanza_few : (i : Numbered) → (length i.stanza.depends ≤ 1024) × (length i.stanza.conflicts ≤ 1024) → length (of_stanza (problem_of v) i) ≤ 263168
+  stanza_few i h =
       let n = all_few (λ cs. needs i.number (meeting (problem_of v) cs)) 1 i.stanza.depends (each_since _ (λ cs. needs_few i.number (meeting (problem_of v) cs)) i.stanza.depends) in
-      let m = all_few (of_conflict (problem_of v) i.number) 256 i.stanza.conflicts (each_since _ (conflict-few i.number) i.stanza.conflicts) in
+      let m = all_few (of_conflict (problem_of v) i.number) 256 i.stanza.conflicts (each_since _ (conflict_few i.number) i.stanza.conflicts) in
       omega (arith, length-append (each_all (λ cs. needs i.number (meeting (problem_of v) cs)) i.stanza.depends) (each_all (of_conflict (problem_of v) i.number) i.stanza.conflicts), n, m, h.0, h.1)
 
-  stanzas-few : length (each_all (of_stanza (problem_of v)) (stanzas (problem_of v))) ≤ 67371008
-  stanzas-few =
+  stanzas_few : length (each_all (of_stanza (problem_of v)) (stanzas (problem_of v))) ≤ 67371008
+  stanzas_few =
       let f = package_of v.text.now (constraints_in v) in
-      let h = each-numbered (λ p. (length p.depends ≤ 1024) × (length p.conflicts ≤ 1024)) f (λ p. (groups-few p.depends, list-few p.conflicts)) 1 (packages_in v) in
-      let n = all_few (of_stanza (problem_of v)) 263168 (stanzas (problem_of v)) (each_weaker (λ i. (length i.stanza.depends ≤ 1024) × (length i.stanza.conflicts ≤ 1024)) (λ i. length (of_stanza (problem_of v) i) ≤ 263168) stanza-few (stanzas (problem_of v)) h) in
+      let h = each-numbered (λ p. (length p.depends ≤ 1024) × (length p.conflicts ≤ 1024)) f (λ p. (groups_few p.depends, list_few p.conflicts)) 1 (packages_in v) in
+      let n = all_few (of_stanza (problem_of v)) 263168 (stanzas (problem_of v)) (each_weaker (λ i. (length i.stanza.depends ≤ 1024) × (length i.stanza.conflicts ≤ 1024)) (λ i. length (of_stanza (problem_of v) i) ≤ 263168) stanza_few (stanzas (problem_of v)) h) in
       omega (arith, n, stanzas-length v, length-take v.count v.packages.now, v.packages_few)
 
-  pub plan-clauses-few : length (plan_clauses (problem_of v)) < 4294967295
-  plan-clauses-few =
+  pub plan_clauses_few : length (plan_clauses (problem_of v)) < 4294967295
+  plan_clauses_few =
       let one = each_all (of_stanza (problem_of v)) (stanzas (problem_of v)) in
       let two = each (of_install (problem_of v)) (problem_of v).install in
       let three = each_all (of_remove (problem_of v)) (problem_of v).remove in
-      let n = all_few (of_remove (problem_of v)) 256 (problem_of v).remove (each_since _ remove-few (problem_of v).remove) in
-      omega (arith, length-append (one ++ two) three, length-append one two, stanzas-few, length-map (problem_of v).install (of_install (problem_of v)), list-few v.install, n, list-few v.remove)
+      let n = all_few (of_remove (problem_of v)) 256 (problem_of v).remove (each_since _ remove_few (problem_of v).remove) in
+      omega (arith, length-append (one ++ two) three, length-append one two, stanzas_few, length-map (problem_of v).install (of_install (problem_of v)), list_few v.install, n, list_few v.remove)

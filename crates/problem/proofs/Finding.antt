@@ -10,8 +10,8 @@ use Rattle.problem.specs.declared.rows.ConstraintRow.{ConstraintRow}
 use Rattle.problem.specs.declared.rows.PackageRow.{PackageRow}
 
 module _ (text : List ℕ) (cs : List ConstraintRow) (name : List ℕ) (v : ℕ) where
-  abbrev isIt : PackageRow → Bool
-  isIt r = bytes_eq name (word_in text r.name) && eqb v r.version
+  abbrev is_it : PackageRow → Bool
+  is_it r = bytes_eq name (word_in text r.name) && eqb v r.version
 
   abbrev look : List PackageRow → Option ℕ
   look rows = stanza_in name v (map (package_of text cs) rows)
@@ -27,17 +27,17 @@ module _ (text : List ℕ) (cs : List ConstraintRow) (name : List ℕ) (v : ℕ)
   none_yet None = refl
   none_yet (Some k) = ap Some (omega arith)
 
-  pub look-start : (rows : List PackageRow) → Looked rows 0
-  look-start rows = none_yet (look rows)
+  pub look_start : (rows : List PackageRow) → Looked rows 0
+  look_start rows = none_yet (look rows)
 
-  pub look-found : (rows : List PackageRow) (i : ℕ) (d : PackageRow) → i < length rows → isIt (get_or rows i d) ≡ true → Looked rows i → Some i ≡ look rows
-  look-found rows i d lt e h =
+  pub look_found : (rows : List PackageRow) (i : ℕ) (d : PackageRow) → i < length rows → is_it (get_or rows i d) ≡ true → Looked rows i → Some i ≡ look rows
+  look_found rows i d lt e h =
       let s : look (get_or rows i d ∷ drop (i + 1) rows) ≡ Some 0 = rw e refl in
       let z : 0 + i ≡ i = omega arith in
       sym (h ∙ ap (λ r. option_map (λ k. k + i) (look r)) (drop_more rows i d lt) ∙ ap (option_map (λ k. k + i)) s ∙ ap Some z)
 
-  pub look-more : (rows : List PackageRow) (i : ℕ) (d : PackageRow) → i < length rows → isIt (get_or rows i d) ≡ false → Looked rows i → Looked rows (i + 1)
-  look-more rows i d lt e h =
+  pub look_more : (rows : List PackageRow) (i : ℕ) (d : PackageRow) → i < length rows → is_it (get_or rows i d) ≡ false → Looked rows i → Looked rows (i + 1)
+  look_more rows i d lt e h =
       let s : look (get_or rows i d ∷ drop (i + 1) rows) ≡ option_map (λ k. k + 1) (look (drop (i + 1) rows)) = rw e refl in
       h ∙ ap (λ r. option_map (λ k. k + i) (look r)) (drop_more rows i d lt) ∙ ap (option_map (λ k. k + i)) s ∙ twice i (look (drop (i + 1) rows))
 

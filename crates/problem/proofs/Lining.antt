@@ -16,7 +16,7 @@ use Rattle.problem.specs.declared.section.Progress.{Progress}
 use Rattle.problem.specs.declared.section.Section.{Section}
 use Rattle.problem.specs.declared.section.Section.TheVariants.{Between}
 use Rattle.problem.specs.declared.wanted.Wanted.{Wanted}
-use Rattle.problem.proofs.Drafting.{list-stays, conjuncts-stay, wanted-stays, spanned_more}
+use Rattle.problem.proofs.Drafting.{list_stays, conjuncts_stay, wanted_stays, spanned_more}
 use Rattle.problem.proofs.Growing.{front_short}
 
 pub begun_placed : (text : List ℕ) (cs : List ConstraintRow) (limit n : ℕ) (full : Bool) (q : Option Sought) (p : List ℕ × List ℕ) (s : Section) (r : Result Section ProblemFault) → s ≡ Between → ok_mapped (place_of text cs) r ≡ opened n full q p → ok_mapped (place_at text cs) r ≡ placed limit n full q (length cs) p (place_of text cs s)
@@ -29,15 +29,15 @@ begun_placed text cs limit n full q p s r e h = at r ∙ ap (λ x. then x (λ y.
 -- what was read before stays as it was
 module _ (text : List ℕ) (cs ds : List ConstraintRow) (front : take (length cs) ds ≡ cs) where
   given_stays : (p : PackageRow) → PackageOk (length text) (length cs) p → given_of text ds p ≡ given_of text cs p
-  given_stays p h = rw (list-stays text cs ds front p.conflicts h.conflicts, conjuncts-stay text cs ds front p.depends h.depends) refl
+  given_stays p h = rw (list_stays text cs ds front p.conflicts h.conflicts, conjuncts_stay text cs ds front p.depends h.depends) refl
 
-  pub givens-stay : (ps : List PackageRow) → Each (PackageOk (length text) (length cs)) ps → map (given_of text ds) ps ≡ map (given_of text cs) ps
-  givens-stay [] h = refl
-  givens-stay (p ∷ ps) h = ap (λ x. x ∷ map (given_of text ds) ps) (given_stays p h.0) ∙ ap (λ x. given_of text cs p ∷ x) (givens-stay ps h.1)
+  pub givens_stay : (ps : List PackageRow) → Each (PackageOk (length text) (length cs)) ps → map (given_of text ds) ps ≡ map (given_of text cs) ps
+  givens_stay [] h = refl
+  givens_stay (p ∷ ps) h = ap (λ x. x ∷ map (given_of text ds) ps) (given_stays p h.0) ∙ ap (λ x. given_of text cs p ∷ x) (givens_stay ps h.1)
 
-  pub request-stays : (w : Option Wanted) → IfSome w (WantedOk (length cs)) → option_map (sought_of text ds) w ≡ option_map (sought_of text cs) w
-  request-stays None h = refl
-  request-stays (Some w) h = ap Some (wanted-stays text cs ds front w h)
+  pub request_stays : (w : Option Wanted) → IfSome w (WantedOk (length cs)) → option_map (sought_of text ds) w ≡ option_map (sought_of text cs) w
+  request_stays None h = refl
+  request_stays (Some w) h = ap Some (wanted_stays text cs ds front w h)
 
   pub stepped : (k : Limits) (n : ℕ) (ps : List PackageRow) (last : Progress) (l : List ℕ) (p : List ℕ × List ℕ) (full : Bool) (r : Result Section ProblemFault) → eqb (length l) 0 ≡ false → Some p ≡ property l → full ≡ not (ltb (length ps) k.packages) → Sound (length text) (length cs) ps last → ok_mapped (place_at text ds) r ≡ placed k.constraints n full (option_map (sought_of text cs) last.request) (length cs) p (place_of text cs last.section) → ok_mapped (state_of text ps ds) (ok_mapped (λ s. record { section = s; request = last.request }) r) ≡ step k n (state_of text ps cs last) l
   stepped k n ps last l p full r e q f h x =
@@ -50,7 +50,7 @@ module _ (text : List ℕ) (cs ds : List ConstraintRow) (front : take (length cs
       after y = Ok (moved s y.0 y.1)
 
       at : (r : Result Section ProblemFault) → ok_mapped (state_of text ps ds) (ok_mapped (λ s. record { section = s; request = last.request }) r) ≡ then (ok_mapped (place_at text ds) r) after
-      at (Ok y) = rw (givens-stay ps h.packages, request-stays last.request h.request) refl
+      at (Ok y) = rw (givens_stay ps h.packages, request_stays last.request h.request) refl
       at (Err y) = refl
 
       full_is : full ≡ not (ltb (length (map (given_of text cs) ps)) k.packages)

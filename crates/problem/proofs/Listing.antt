@@ -273,17 +273,17 @@ module _ (text v : List ℕ) (r : Rows ConstraintRow) (first n : ℕ) where
   abbrev none : Span
   none = record { first = first; len = 0 }
 
-  fits-still : length (items r) ≤ limit_of r → leb (length (items r) + 0) (limit_of r) ≡ true
-  fits-still h = le-leb (length (items r) + 0) (limit_of r) (omega arith)
+  fits_still : length (items r) ≤ limit_of r → leb (length (items r) + 0) (limit_of r) ≡ true
+  fits_still h = le-leb (length (items r) + 0) (limit_of r) (omega arith)
 
   same_count : length (items r) ≡ length (items r) + 0
   same_count = omega arith
 
-  pub list-empty : eqb (length v) 0 ≡ true → length (items r) ≤ limit_of r → Ok (list_at text r none) ≡ listed (limit_of r) (length (items r)) n (constraint_list v)
-  list-empty e h = rw (e, fits-still h) (ap (λ y. Ok ([], y)) same_count)
+  pub list_empty : eqb (length v) 0 ≡ true → length (items r) ≤ limit_of r → Ok (list_at text r none) ≡ listed (limit_of r) (length (items r)) n (constraint_list v)
+  list_empty e h = rw (e, fits_still h) (ap (λ y. Ok ([], y)) same_count)
 
-  pub conjuncts-empty : eqb (length v) 0 ≡ true → length (items r) ≤ limit_of r → Ok (conjuncts_at text r none) ≡ conjoined (limit_of r) (length (items r)) n (conjunct_list v)
-  conjuncts-empty e h = rw (e, fits-still h) (ap (λ y. Ok ([], y)) same_count)
+  pub conjuncts_empty : eqb (length v) 0 ≡ true → length (items r) ≤ limit_of r → Ok (conjuncts_at text r none) ≡ conjoined (limit_of r) (length (items r)) n (conjunct_list v)
+  conjuncts_empty e h = rw (e, fits_still h) (ap (λ y. Ok ([], y)) same_count)
 
-  pub span-empty : first ≡ length (items r) → SpanOf r r none
-  span-empty e = record { first = e; end = omega arith }
+  pub span_empty : first ≡ length (items r) → SpanOf r r none
+  span_empty e = record { first = e; end = omega arith }

@@ -14,7 +14,7 @@ use Rattle.problem.specs.declared.rows.Span.{Span}
 use Rattle.problem.specs.declared.rows.PackageRow.{PackageRow}
 use Rattle.problem.specs.declared.rows.ConstraintRow.{ConstraintRow}
 use Rattle.problem.specs.declared.view.Problem.{Problem as View}
-use Rattle.problem.proofs.Feeds.{walk_more, walk-stop, walk-all}
+use Rattle.problem.proofs.Feeds.{walk_more, walk-stop, walk_all}
 use Rattle.problem.proofs.Numbers.{numbered_at, numbered-length}
 use Rattle.problem.proofs.Walks.{some_of_each, or_none}
 
@@ -84,30 +84,30 @@ stanza_at_place v i d l =
 
 -- the same, of what the calls on a view give
 module _ (v : View) (text : List ℕ) (ps : List PackageRow) (t : text ≡ v.text.now) (p : ps ≡ packages_in v) where
-  pub depends-are : (i : ℕ) (rows : List ConstraintRow) → rows ≡ span_in (constraints_in v) (get_or (packages_in v) i no_package).depends →
+  pub depends_are : (i : ℕ) (rows : List ConstraintRow) → rows ≡ span_in (constraints_in v) (get_or (packages_in v) i no_package).depends →
       each_all (λ g. needs (suc i) (passing (row_satisfies_one text g) 0 ps)) (conjuncts rows) ≡ each_all (λ ds. needs (suc i) (meeting (problem_of v) ds)) (stanza_at v i).stanza.depends
-  depends-are i rows r =
+  depends_are i rows r =
       ap (λ x. each_all (λ g. needs (suc i) (passing (row_satisfies_one x g) 0 ps)) (conjuncts rows)) t ∙ ap (λ x. each_all (λ g. needs (suc i) (passing (row_satisfies_one v.text.now g) 0 x)) (conjuncts rows)) p
       ∙ ap (λ x. each_all (λ g. needs (suc i) (passing (row_satisfies_one v.text.now g) 0 (packages_in v))) (conjuncts x)) r
       ∙ sym (depends-clauses v.text.now (constraints_in v) (packages_in v) v.install v.remove (suc i) (span_in (constraints_in v) (get_or (packages_in v) i no_package).depends))
 
-  pub conflicts-are : (i : ℕ) (rows : List ConstraintRow) → rows ≡ span_in (constraints_in v) (get_or (packages_in v) i no_package).conflicts →
+  pub conflicts_are : (i : ℕ) (rows : List ConstraintRow) → rows ≡ span_in (constraints_in v) (get_or (packages_in v) i no_package).conflicts →
       each_all (λ c. denials (Some i) (passing (row_satisfies text c) 0 ps)) rows ≡ each_all (of_conflict (problem_of v) (suc i)) (stanza_at v i).stanza.conflicts
-  conflicts-are i rows r =
+  conflicts_are i rows r =
       ap (λ x. each_all (λ c. denials (Some i) (passing (row_satisfies x c) 0 ps)) rows) t ∙ ap (λ x. each_all (λ c. denials (Some i) (passing (row_satisfies v.text.now c) 0 x)) rows) p
       ∙ ap (each_all (λ c. denials (Some i) (passing (row_satisfies v.text.now c) 0 (packages_in v)))) r
       ∙ sym (conflicts-clauses v.text.now (constraints_in v) (packages_in v) v.install v.remove i (span_in (constraints_in v) (get_or (packages_in v) i no_package).conflicts))
 
-  pub install-are : (rows : List ConstraintRow) → rows ≡ span_in (constraints_in v) v.install →
+  pub install_are : (rows : List ConstraintRow) → rows ≡ span_in (constraints_in v) v.install →
       each_all (λ c. each lit (passing (row_satisfies_one text (c ∷ [])) 0 ps) ∷ []) rows ≡ each (of_install (problem_of v)) (problem_of v).install
-  install-are rows r =
+  install_are rows r =
       ap (λ x. each_all (λ c. each lit (passing (row_satisfies_one x (c ∷ [])) 0 ps) ∷ []) rows) t ∙ ap (λ x. each_all (λ c. each lit (passing (row_satisfies_one v.text.now (c ∷ [])) 0 x) ∷ []) rows) p
       ∙ ap (each_all (λ c. each lit (passing (row_satisfies_one v.text.now (c ∷ [])) 0 (packages_in v)) ∷ [])) r
       ∙ sym (install-clauses v.text.now (constraints_in v) (packages_in v) v.install v.remove (span_in (constraints_in v) v.install))
 
-  pub remove-are : (rows : List ConstraintRow) → rows ≡ span_in (constraints_in v) v.remove →
+  pub remove_are : (rows : List ConstraintRow) → rows ≡ span_in (constraints_in v) v.remove →
       each_all (λ c. denials None (passing (row_satisfies text c) 0 ps)) rows ≡ each_all (of_remove (problem_of v)) (problem_of v).remove
-  remove-are rows r =
+  remove_are rows r =
       ap (λ x. each_all (λ c. denials None (passing (row_satisfies x c) 0 ps)) rows) t ∙ ap (λ x. each_all (λ c. denials None (passing (row_satisfies v.text.now c) 0 x)) rows) p
       ∙ ap (each_all (λ c. denials None (passing (row_satisfies v.text.now c) 0 (packages_in v)))) r
       ∙ sym (remove-clauses v.text.now (constraints_in v) (packages_in v) v.install v.remove (span_in (constraints_in v) v.remove))
@@ -123,18 +123,18 @@ module _ {S : Type 0} (goes stops : S → Clause → S → Type 0) (v : View) (w
   longs : length (stanzas (problem_of v)) ≡ n
   longs = stanzas-length v ∙ sym (packages_count v n e)
 
-  noStanza : Numbered
-  noStanza = stanza_at v 0
+  no_stanza : Numbered
+  no_stanza = stanza_at v 0
 
   module _ (l : i < n) (k : Left goes stops whole start (each_all (of_stanza (problem_of v)) (drop i (stanzas (problem_of v)))) s) where
-    at : (r : Bool) → Fed goes stops (of_stanza (problem_of v) (stanza_at v i)) r s t → Fed goes stops (of_stanza (problem_of v) (get_or (stanzas (problem_of v)) i noStanza)) r s t
-    at r = subst (λ x. Fed goes stops (of_stanza (problem_of v) x) r s t) (sym (stanza_at_place v i noStanza (omega (arith, packages_count v n e))))
+    at : (r : Bool) → Fed goes stops (of_stanza (problem_of v) (stanza_at v i)) r s t → Fed goes stops (of_stanza (problem_of v) (get_or (stanzas (problem_of v)) i no_stanza)) r s t
+    at r = subst (λ x. Fed goes stops (of_stanza (problem_of v) x) r s t) (sym (stanza_at_place v i no_stanza (omega (arith, packages_count v n e))))
 
     pub stanzas-more : Fed goes stops (of_stanza (problem_of v) (stanza_at v i)) true s t → Left goes stops whole start (each_all (of_stanza (problem_of v)) (drop (i + 1) (stanzas (problem_of v)))) t
-    stanzas-more h = walk_more goes stops (of_stanza (problem_of v)) whole start s t (stanzas (problem_of v)) i noStanza (omega (arith, longs)) k (at true h)
+    stanzas-more h = walk_more goes stops (of_stanza (problem_of v)) whole start s t (stanzas (problem_of v)) i no_stanza (omega (arith, longs)) k (at true h)
 
     pub stanzas-stop : Fed goes stops (of_stanza (problem_of v) (stanza_at v i)) false s t → Fed goes stops whole false start t
-    stanzas-stop h = walk-stop goes stops (of_stanza (problem_of v)) whole start s t (stanzas (problem_of v)) i noStanza (omega (arith, longs)) k (at false h)
+    stanzas-stop h = walk-stop goes stops (of_stanza (problem_of v)) whole start s t (stanzas (problem_of v)) i no_stanza (omega (arith, longs)) k (at false h)
 
-  pub stanzas-all : n ≤ i → Left goes stops whole start (each_all (of_stanza (problem_of v)) (drop i (stanzas (problem_of v)))) s → Fed goes stops whole true start s
-  stanzas-all l = walk-all goes stops (of_stanza (problem_of v)) whole start s (stanzas (problem_of v)) i (omega (arith, longs))
+  pub stanzas_all : n ≤ i → Left goes stops whole start (each_all (of_stanza (problem_of v)) (drop i (stanzas (problem_of v)))) s → Fed goes stops whole true start s
+  stanzas_all l = walk_all goes stops (of_stanza (problem_of v)) whole start s (stanzas (problem_of v)) i (omega (arith, longs))

@@ -22,16 +22,16 @@ use Rattle.problem.proofs.Walks.{some_of_each}
 
 -- the walk over the versions of a name
 module _ (text : List ℕ) (set : List Standing) (m : Mark) (n : List ℕ) (ps : List PackageRow) (i : ℕ) where
-  pub version-step : (d : PackageRow) (r chosen : Bool) → i < length ps → chosen ≡ is_in (get_or set i Unnamed) → r ≡ (bytes_eq n (word_in text (get_or ps i d).name) && marked m chosen (get_or ps i d).installed) →
+  pub version_step : (d : PackageRow) (r chosen : Bool) → i < length ps → chosen ≡ is_in (get_or set i Unnamed) → r ≡ (bytes_eq n (word_in text (get_or ps i d).name) && marked m chosen (get_or ps i d).installed) →
       some_version text set m n i (drop i ps) ≡ (r || some_version text set m n (i + 1) (drop (i + 1) ps))
-  version-step d r chosen l f e =
+  version_step d r chosen l f e =
       let z : suc i ≡ i + 1 = omega arith in
       ap (some_version text set m n i) (drop_more ps i d l)
       ∙ ap (λ b. (bytes_eq n (word_in text (get_or ps i d).name) && marked m b (get_or ps i d).installed) || some_version text set m n (suc i) (drop (i + 1) ps)) (sym f)
       ∙ ap (λ b. b || some_version text set m n (suc i) (drop (i + 1) ps)) (sym e) ∙ ap (λ k. r || some_version text set m n k (drop (i + 1) ps)) z
 
-  pub version-none : length ps ≤ i → some_version text set m n i (drop i ps) ≡ false
-  version-none l = ap (some_version text set m n i) (drop_all i ps l)
+  pub version_none : length ps ≤ i → some_version text set m n i (drop i ps) ≡ false
+  version_none l = ap (some_version text set m n i) (drop_all i ps l)
 
 -- names that are seen alike
 pub names_alike : (text : List ℕ) (a b : List (List ℕ)) → ((m : List ℕ) → seen_in m a ≡ seen_in m b) → (ps : List PackageRow) → row_names text a ps ≡ row_names text b ps
@@ -85,10 +85,10 @@ module _ (text : List ℕ) (t : List ℕ → Bool) (ps : List PackageRow) (i : �
       first false e ∙ ap (λ ns. how_many t (name_of (get_or ps i d) ∷ ns)) (names_alike text (name_of (get_or ps i d) ∷ seen i) (seen (i + 1))
       (λ m. sym (ap (seen_in m) (map_more name_of ps i d l) ∙ seen_pushed m (name_of (get_or ps i d)) (seen i))) (drop (i + 1) ps))
 
-  pub names-step : (r : Bool) → r ≡ (not (named text (word_in text (get_or ps i d).name) (take i ps)) && t (word_in text (get_or ps i d).name)) →
+  pub names_step : (r : Bool) → r ≡ (not (named text (word_in text (get_or ps i d).name) (take i ps)) && t (word_in text (get_or ps i d).name)) →
       how_many t (row_names text (each (λ p. word_in text p.name) (take i ps)) (drop i ps)) ≡
       cond r (suc (how_many t (row_names text (each (λ p. word_in text p.name) (take (i + 1) ps)) (drop (i + 1) ps)))) (how_many t (row_names text (each (λ p. word_in text p.name) (take (i + 1) ps)) (drop (i + 1) ps)))
-  names-step r f = pick (named text (name_of (get_or ps i d)) (take i ps)) refl ∙ ap (λ y. cond y (suc (rest (i + 1))) (rest (i + 1))) (sym f)
+  names_step r f = pick (named text (name_of (get_or ps i d)) (take i ps)) refl ∙ ap (λ y. cond y (suc (rest (i + 1))) (rest (i + 1))) (sym f)
     where
       pick : (b : Bool) → named text (name_of (get_or ps i d)) (take i ps) ≡ b → rest i ≡ cond (not (named text (name_of (get_or ps i d)) (take i ps)) && t (name_of (get_or ps i d))) (suc (rest (i + 1))) (rest (i + 1))
       pick true e = old e ∙ sym (ap (λ y. cond (not y && t (name_of (get_or ps i d))) (suc (rest (i + 1))) (rest (i + 1))) e)
@@ -105,13 +105,13 @@ names_are text cs seen (p ∷ ps) =
     ap (λ y. cond (seen_in n seen) y (n ∷ row_names text (n ∷ seen) ps)) (names_are text cs seen ps) ∙ ap (λ y. cond (seen_in n seen) (names_from seen (each (package_of text cs) ps)) (n ∷ y)) (names_are text cs (n ∷ seen) ps)
 
 module _ (text : List ℕ) (cs : List ConstraintRow) (set : List Standing) (n : List ℕ) where
-  version-is : (m : Mark) (b : ℕ) (ps : List PackageRow) →
+  version_is : (m : Mark) (b : ℕ) (ps : List PackageRow) →
       some_version text set m n b ps ≡ some (λ i. marked m (set_of set i.number) i.stanza.installed) (keep (λ i. bytes_eq n i.stanza.name) (numbered (suc b) (each (package_of text cs) ps)))
-  version-is m b [] = refl
-  version-is m b (p ∷ ps) =
+  version_is m b [] = refl
+  version_is m b (p ∷ ps) =
       let z : b ≡ suc b - 1 = omega arith in
       ap (λ k. (bytes_eq n (word_in text p.name) && marked m (is_in (get_or set k Unnamed)) p.installed) || some_version text set m n (suc b) ps) z
-      ∙ ap (λ y. (bytes_eq n (word_in text p.name) && marked m (set_of set (suc b)) p.installed) || y) (version-is m (suc b) ps)
+      ∙ ap (λ y. (bytes_eq n (word_in text p.name) && marked m (set_of set (suc b)) p.installed) || y) (version_is m (suc b) ps)
       ∙ picked (bytes_eq n (word_in text p.name)) _ _ _
     where
       picked : (x : Bool) (t : Numbered → Bool) (i : Numbered) (is : List Numbered) → ((x && t i) || some t is) ≡ some t (cond x (i ∷ is) is)
@@ -129,11 +129,11 @@ module _ (v : View) (set : List Standing) (text : List ℕ) (ps : List PackageRo
       ap (λ x. how_many (affected x set ps effect) (row_names x [] ps)) e ∙ ap (λ x. how_many (affected v.text.now set x effect) (row_names v.text.now [] x)) f
       ∙ how_many_same _ t h (row_names v.text.now [] (packages_in v)) ∙ ap (how_many t) (names_are v.text.now (constraints_in v) [] (packages_in v))
 
-  pub removed-are : how_many (affected text set ps Removes) (row_names text [] ps) ≡ removed_count (problem_of v) (set_of set)
-  removed-are =
+  pub removed_are : how_many (affected text set ps Removes) (row_names text [] ps) ≡ removed_count (problem_of v) (set_of set)
+  removed_are =
       counted Removes (is_removed (problem_of v) (set_of set))
-      (λ n. ap (λ x. x && not (some_version v.text.now set Chosen n 0 (packages_in v))) (version-is v.text.now (constraints_in v) set n Installed 0 (packages_in v))
-      ∙ ap (λ x. some (λ i. i.stanza.installed) (versions_of (problem_of v) n) && not x) (version-is v.text.now (constraints_in v) set n Chosen 0 (packages_in v)))
+      (λ n. ap (λ x. x && not (some_version v.text.now set Chosen n 0 (packages_in v))) (version_is v.text.now (constraints_in v) set n Installed 0 (packages_in v))
+      ∙ ap (λ x. some (λ i. i.stanza.installed) (versions_of (problem_of v) n) && not x) (version_is v.text.now (constraints_in v) set n Chosen 0 (packages_in v)))
 
-  pub changed-are : how_many (affected text set ps Changes) (row_names text [] ps) ≡ changed_count (problem_of v) (set_of set)
-  changed-are = counted Changes (is_changed (problem_of v) (set_of set)) (λ n. version-is v.text.now (constraints_in v) set n Changed 0 (packages_in v))
+  pub changed_are : how_many (affected text set ps Changes) (row_names text [] ps) ≡ changed_count (problem_of v) (set_of set)
+  changed_are = counted Changes (is_changed (problem_of v) (set_of set)) (λ n. version_is v.text.now (constraints_in v) set n Changed 0 (packages_in v))

@@ -28,8 +28,8 @@ module _ (t : PackageRow → Bool) where
       ap (passing t (b + i)) (drop_more ps i d l) ∙ ap (λ m. cond (t (get_or ps i d)) (suc (b + i) ∷ passing t m (drop (i + 1) ps)) (passing t m (drop (i + 1) ps))) n
       ∙ ap (λ y. cond y (suc (b + i) ∷ passing t (b + (i + 1)) (drop (i + 1) ps)) (passing t (b + (i + 1)) (drop (i + 1) ps))) e
 
-  pub passing-end : (ps : List PackageRow) (b i : ℕ) → length ps ≤ i → passing t (b + i) (drop i ps) ≡ []
-  passing-end ps b i l = ap (passing t (b + i)) (drop_all i ps l)
+  pub passing_end : (ps : List PackageRow) (b i : ℕ) → length ps ≤ i → passing t (b + i) (drop i ps) ≡ []
+  passing_end ps b i l = ap (passing t (b + i)) (drop_all i ps l)
 
   -- the clause that is written, and what is left to write
   pub written_more : (ps : List PackageRow) (b i : ℕ) (d : PackageRow) (c c' whole : Clause) → i < length ps → t (get_or ps i d) ≡ true → c' ≡ c ++ lit (suc (b + i)) ∷ [] →
@@ -44,20 +44,20 @@ module _ (t : PackageRow → Bool) where
       ap (λ y. y ++ each lit (passing t (b + (i + 1)) (drop (i + 1) ps))) w ∙ ap (λ y. c ++ each lit y) (sym (passing_step ps b i d false l e)) ∙ h
 
   pub written_all : (ps : List PackageRow) (b i : ℕ) (c whole : Clause) → length ps ≤ i → c ++ each lit (passing t (b + i) (drop i ps)) ≡ whole → c ≡ whole
-  written_all ps b i c whole l h = sym (append-nil c) ∙ ap (λ y. c ++ each lit y) (sym (passing-end ps b i l)) ∙ h
+  written_all ps b i c whole l h = sym (append-nil c) ∙ ap (λ y. c ++ each lit y) (sym (passing_end ps b i l)) ∙ h
 
-  passing-append : (xs ys : List PackageRow) (b : ℕ) → passing t b (xs ++ ys) ≡ passing t b xs ++ passing t (b + length xs) ys
-  passing-append [] ys b = ap (λ n. passing t n ys) (sym (add-zero b))
-  passing-append (x ∷ xs) ys b =
+  passing_append : (xs ys : List PackageRow) (b : ℕ) → passing t b (xs ++ ys) ≡ passing t b xs ++ passing t (b + length xs) ys
+  passing_append [] ys b = ap (λ n. passing t n ys) (sym (add-zero b))
+  passing_append (x ∷ xs) ys b =
       let e : passing t (suc b) (xs ++ ys) ≡ passing t (suc b) xs ++ passing t (b + suc (length xs)) ys =
-      passing-append xs ys (suc b) ∙ ap (λ n. passing t (suc b) xs ++ passing t n ys) (omega arith) in
+      passing_append xs ys (suc b) ∙ ap (λ n. passing t (suc b) xs ++ passing t n ys) (omega arith) in
       elim (t x) as (λ y. cond y (suc b ∷ passing t (suc b) (xs ++ ys)) (passing t (suc b) (xs ++ ys)) ≡ cond y (suc b ∷ passing t (suc b) xs) (passing t (suc b) xs) ++ passing t (b + suc (length xs)) ys)
       [ true ↦ ap (λ y. suc b ∷ y) e | false ↦ e ]
 
-  passing-range : (ps : List PackageRow) (b : ℕ) → Each (λ j. (b < j) × (j ≤ b + length ps)) (passing t b ps)
-  passing-range [] b = tt
-  passing-range (p ∷ ps) b =
-      let h = each_weaker (λ j. (suc b < j) × (j ≤ suc b + length ps)) (λ j. (b < j) × (j ≤ b + suc (length ps))) (λ j k. (omega arith, omega arith)) (passing t (suc b) ps) (passing-range ps (suc b)) in
+  passing_range : (ps : List PackageRow) (b : ℕ) → Each (λ j. (b < j) × (j ≤ b + length ps)) (passing t b ps)
+  passing_range [] b = tt
+  passing_range (p ∷ ps) b =
+      let h = each_weaker (λ j. (suc b < j) × (j ≤ suc b + length ps)) (λ j. (b < j) × (j ≤ b + suc (length ps))) (λ j k. (omega arith, omega arith)) (passing t (suc b) ps) (passing_range ps (suc b)) in
       elim (t p) as (λ y. Each (λ j. (b < j) × (j ≤ b + suc (length ps))) (cond y (suc b ∷ passing t (suc b) ps) (passing t (suc b) ps))) [ true ↦ ((omega arith, omega arith), h) | false ↦ h ]
 
   -- the numbers before a place, its own, and those after it
@@ -73,18 +73,18 @@ module _ (t : PackageRow → Bool) where
     split r e =
         let m : 0 + length (take i ps) ≡ i = omega (arith, length-take-le i ps (omega arith)) in
         let n : suc i ≡ i + 1 = omega arith in
-        ap (passing t 0) (sym (take-append-drop i ps)) ∙ passing-append (take i ps) (drop i ps) 0 ∙ ap (λ k. passing t 0 (take i ps) ++ passing t k (drop i ps)) m
+        ap (passing t 0) (sym (take-append-drop i ps)) ∙ passing_append (take i ps) (drop i ps) 0 ∙ ap (λ k. passing t 0 (take i ps) ++ passing t k (drop i ps)) m
         ∙ ap (λ xs. passing t 0 (take i ps) ++ passing t i xs) (drop_more ps i d l)
         ∙ ap (λ y. passing t 0 (take i ps) ++ cond y (suc i ∷ passing t (suc i) (drop (i + 1) ps)) (passing t (suc i) (drop (i + 1) ps))) e
         ∙ ap (λ k. passing t 0 (take i ps) ++ cond r (suc i ∷ passing t k (drop (i + 1) ps)) (passing t k (drop (i + 1) ps))) n
 
     below : Each (λ j. j < suc i) front
     unfolding front
-    below = each_weaker (λ j. (0 < j) × (j ≤ 0 + length (take i ps))) (λ j. j < suc i) (λ j k. omega (arith, length-take-le i ps (omega arith))) (passing t 0 (take i ps)) (passing-range (take i ps) 0)
+    below = each_weaker (λ j. (0 < j) × (j ≤ 0 + length (take i ps))) (λ j. j < suc i) (λ j k. omega (arith, length-take-le i ps (omega arith))) (passing t 0 (take i ps)) (passing_range (take i ps) 0)
 
     above : Each (λ j. suc i < j) back
     unfolding back
-    above = each_weaker (λ j. (i + 1 < j) × (j ≤ (i + 1) + length (drop (i + 1) ps))) (λ j. suc i < j) (λ j k. omega arith) (passing t (i + 1) (drop (i + 1) ps)) (passing-range (drop (i + 1) ps) (i + 1))
+    above = each_weaker (λ j. (i + 1 < j) × (j ≤ (i + 1) + length (drop (i + 1) ps))) (λ j. suc i < j) (λ j k. omega arith) (passing t (i + 1) (drop (i + 1) ps)) (passing_range (drop (i + 1) ps) (i + 1))
 
     pub needs-none : t (get_or ps i d) ≡ true → needs (suc i) (passing t 0 ps) ≡ []
     needs-none e =

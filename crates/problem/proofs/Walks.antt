@@ -4,11 +4,11 @@ use Rattle.std.proofs.lemmas.List.{at_drop_more, at_drop_all}
 use Rattle.text.specs.Lists.{each, some}
 
 module _ {X : Type 0} (t : X → Bool) (xs : List X) (i : ℕ) (d : X) (l : i < length xs) where
-  pub some-found : t (get_or xs i d) ≡ true → some t (drop i xs) ≡ true
-  some-found e = let f : some t (drop i xs) ≡ (t (get_or xs i d) || some t (drop (i + 1) xs)) = at_drop_more (some t) xs i d l in f ∙ ap (λ b. b || some t (drop (i + 1) xs)) e
+  pub some_found : t (get_or xs i d) ≡ true → some t (drop i xs) ≡ true
+  some_found e = let f : some t (drop i xs) ≡ (t (get_or xs i d) || some t (drop (i + 1) xs)) = at_drop_more (some t) xs i d l in f ∙ ap (λ b. b || some t (drop (i + 1) xs)) e
 
-  pub some-missed : t (get_or xs i d) ≡ false → some t (drop i xs) ≡ some t (drop (i + 1) xs)
-  some-missed e = let f : some t (drop i xs) ≡ (t (get_or xs i d) || some t (drop (i + 1) xs)) = at_drop_more (some t) xs i d l in f ∙ ap (λ b. b || some t (drop (i + 1) xs)) e
+  pub some_missed : t (get_or xs i d) ≡ false → some t (drop i xs) ≡ some t (drop (i + 1) xs)
+  some_missed e = let f : some t (drop i xs) ≡ (t (get_or xs i d) || some t (drop (i + 1) xs)) = at_drop_more (some t) xs i d l in f ∙ ap (λ b. b || some t (drop (i + 1) xs)) e
 
 pub some_none : {X : Type 0} (t : X → Bool) (xs : List X) (i : ℕ) → length xs ≤ i → some t (drop i xs) ≡ false
 some_none t xs i l = at_drop_all (some t) xs i l

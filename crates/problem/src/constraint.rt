@@ -4,7 +4,7 @@ ghost use Rattle.std.specs.Option.{option_map};
 ghost use Rattle.text.specs.Word.{word_in};
 ghost use Rattle.problem.specs.ConstraintLists.{asked_of};
 ghost use Rattle.problem.specs.Placed.{Reads, related_to};
-ghost use Rattle.problem.specs.Words.{name_byte, name_len, is_name, operator as operatorOf, version};
+ghost use Rattle.problem.specs.Words.{name_byte, name_len, is_name, operator as operator_of, version};
 
 use crate::rows::{ConstraintRow, Relation};
 use text::digits::decimal;
@@ -59,7 +59,7 @@ fn byte_at(text: &[u8], i: usize) -> u8
 
 /// The operator at the front, and how many bytes it has.
 fn read_operator(text: &[u8]) -> Option<(Relation, usize)>
-    ensures value { result ≡ operatorOf text.now }
+    ensures value { result ≡ operator_of text.now }
     ensures within { IfSome result (λ p. p.1 ≤ length text.now) }
 {
     let first = byte_at(text, 0) as char;

@@ -7,7 +7,7 @@ use Rattle.text.specs.Word.{word_in}
 use Rattle.problem.specs.Feeding.{Fed, Left}
 use Rattle.problem.specs.Rows.{no_package}
 use Rattle.problem.specs.declared.rows.PackageRow.{PackageRow}
-use Rattle.problem.proofs.Feeds.{left-more, left-stop, left-all}
+use Rattle.problem.proofs.Feeds.{left_more, left_stop, left_all}
 use Rattle.verdict.specs.Indicators.{changed_rows, of_name, of_names, listed_at, listed_from}
 use Rattle.verdict.specs.declared.names.Indicator.{Indicator}
 use Rattle.verdict.proofs.Listed.{listed_more, listed_same, listed_none}
@@ -27,30 +27,30 @@ module _ {S : Type 0} (goes stops : S → Clause → S → Type 0) (text n : Lis
 
   module _ (whole : List Clause) (start s t : S) (l : i < length ps) (k : Left goes stops whole start (changed_rows text n v i (drop i ps)) s) where
     pub changed-stop : bytes_eq n (word_in text (get_or ps i no_package).name) ≡ true → Fed goes stops (here ∷ []) false s t → Fed goes stops whole false start t
-    changed-stop e f = left-stop goes stops whole (here ∷ []) after start s t (subst (λ cs. Left goes stops whole start cs s) (step true l e) k) f
+    changed-stop e f = left_stop goes stops whole (here ∷ []) after start s t (subst (λ cs. Left goes stops whole start cs s) (step true l e) k) f
 
     pub changed-more : bytes_eq n (word_in text (get_or ps i no_package).name) ≡ true → (m : S) → Fed goes stops (here ∷ []) true s m → t ≡ m → Left goes stops whole start after t
-    changed-more e m f d = subst (λ u. Left goes stops whole start after u) (sym d) (left-more goes stops whole (here ∷ []) after start s m (subst (λ cs. Left goes stops whole start cs s) (step true l e) k) f)
+    changed-more e m f d = subst (λ u. Left goes stops whole start after u) (sym d) (left_more goes stops whole (here ∷ []) after start s m (subst (λ cs. Left goes stops whole start cs s) (step true l e) k) f)
 
     pub changed-same : bytes_eq n (word_in text (get_or ps i no_package).name) ≡ false → t ≡ s → Left goes stops whole start after t
     changed-same e d = subst (λ u. Left goes stops whole start after u) (sym d) (subst (λ cs. Left goes stops whole start cs s) (step false l e) k)
 
-  pub changed-all : (whole : List Clause) (start s : S) → length ps ≤ i → Left goes stops whole start (changed_rows text n v i (drop i ps)) s → Fed goes stops whole true start s
-  changed-all whole start s l k = left-all goes stops whole start s (subst (λ xs. Left goes stops whole start (changed_rows text n v i xs) s) (drop_all i ps l) k)
+  pub changed_all : (whole : List Clause) (start s : S) → length ps ≤ i → Left goes stops whole start (changed_rows text n v i (drop i ps)) s → Fed goes stops whole true start s
+  changed_all whole start s l k = left_all goes stops whole start s (subst (λ xs. Left goes stops whole start (changed_rows text n v i xs) s) (drop_all i ps l) k)
 
 -- over the names
 module _ {S : Type 0} (goes stops : S → Clause → S → Type 0) (k : Indicator) (text : List ℕ) (ps : List PackageRow) (v i : ℕ) (whole : List Clause) (start s : S) (left : Left goes stops whole start (of_names k text ps v (listed_from k text ps i)) s) where
   module _ (t : S) (l : i < length ps) where
     pub names-stop : (n : List ℕ) → n ≡ word_in text (get_or ps i no_package).name → true ≡ listed_at k text ps i → Fed goes stops (of_name k text ps v n) false s t → Fed goes stops whole false start t
     names-stop n d e f =
-        left-stop goes stops whole _ (of_names k text ps (suc v) (listed_from k text ps (i + 1))) start s t
+        left_stop goes stops whole _ (of_names k text ps (suc v) (listed_from k text ps (i + 1))) start s t
         (subst (λ ns. Left goes stops whole start (of_names k text ps v ns) s) (listed_more k text ps i l e ∙ ap (λ m. m ∷ listed_from k text ps (i + 1)) (sym d)) left) f
 
     pub names_more : (n : List ℕ) (w : ℕ) (m : S) → n ≡ word_in text (get_or ps i no_package).name → true ≡ listed_at k text ps i → w ≡ v + 1 → Fed goes stops (of_name k text ps v n) true s m → t ≡ m →
         Left goes stops whole start (of_names k text ps w (listed_from k text ps (i + 1))) t
     names_more n w m d e x f y =
         let z : suc v ≡ w = omega arith in
-        let g = left-more goes stops whole _ (of_names k text ps (suc v) (listed_from k text ps (i + 1))) start s m
+        let g = left_more goes stops whole _ (of_names k text ps (suc v) (listed_from k text ps (i + 1))) start s m
         (subst (λ ns. Left goes stops whole start (of_names k text ps v ns) s) (listed_more k text ps i l e ∙ ap (λ a. a ∷ listed_from k text ps (i + 1)) (sym d)) left) f in
         subst (λ u. Left goes stops whole start (of_names k text ps w (listed_from k text ps (i + 1))) u) (sym y) (subst (λ u. Left goes stops whole start (of_names k text ps u (listed_from k text ps (i + 1))) m) z g)
 
@@ -59,5 +59,5 @@ module _ {S : Type 0} (goes stops : S → Clause → S → Type 0) (k : Indicato
         subst (λ u. Left goes stops whole start (of_names k text ps w (listed_from k text ps (i + 1))) u) (sym y)
         (subst (λ u. Left goes stops whole start (of_names k text ps u (listed_from k text ps (i + 1))) s) (sym x) (subst (λ ns. Left goes stops whole start (of_names k text ps v ns) s) (listed_same k text ps i l e) left))
 
-  pub names-all : length ps ≤ i → Fed goes stops whole true start s
-  names-all l = left-all goes stops whole start s (subst (λ ns. Left goes stops whole start (of_names k text ps v ns) s) (listed_none k text ps i l) left)
+  pub names_all : length ps ≤ i → Fed goes stops whole true start s
+  names_all l = left_all goes stops whole start s (subst (λ ns. Left goes stops whole start (of_names k text ps v ns) s) (listed_none k text ps i l) left)

@@ -47,9 +47,9 @@ module _ (q : Problem) (a : Answer) (k k' : Memory) (m m₁ m' : Meaning) (s s' 
 
 -- what a whole run comes to, by the law
 module _ (q : Problem) (a : Answer) (k : Memory) (m m' : Meaning) (s s' : Stream) (rs rs' : List Reply) where
-  pub verdict-true : (r : Result Verdict SessionFault) → Concludes q a k m s rs r rs' m' s' → TrueVerdict q a r
-  verdict-true (Ok v) c = subst (Means q a) (sym c.1.7) (law.sound q a m s k rs' c.0 (is_plan q a c.1.1) c.1.3 c.1.6)
-  verdict-true (Err f) c = tt
+  pub verdict_true : (r : Result Verdict SessionFault) → Concludes q a k m s rs r rs' m' s' → TrueVerdict q a r
+  verdict_true (Ok v) c = subst (Means q a) (sym c.1.7) (law.sound q a m s k rs' c.0 (is_plan q a c.1.1) c.1.3 c.1.6)
+  verdict_true (Err f) c = tt
 
   pub not_opened : (f : OpenFault) → Opens m q a (Err f) m' → m.trial ≡ idle → IsPlanOrFail q a → T (opening_fits m q a) → ⊥
   not_opened InTrial o i p t = o.0 i

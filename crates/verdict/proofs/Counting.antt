@@ -4,7 +4,7 @@ use Rattle.std.proofs.lemmas.Int.{to_z-of_z}
 use Rattle.text.specs.Lists.{each, each_all, up_from}
 use Rattle.text.specs.Literals.{Clause, lit, neg}
 use Rattle.problem.specs.Feeding.{Fed, Left}
-use Rattle.problem.proofs.Feeds.{fed-on, fed-stop, fed-as, fed-one}
+use Rattle.problem.proofs.Feeds.{fed_on, fed_stop, fed_as, fed_one}
 use Rattle.verdict.specs.Opening.{counter_input, counter}
 
 -- the literals of a clause as they lie in memory
@@ -35,8 +35,8 @@ module _ (base limit place : ℕ) where
   pub row_more : suc place * limit ≡ place * limit + limit
   row_more = suc-mul place limit
 
-  pub row-holds : (place ≡ 0 → ⊥) → limit ≤ place * limit
-  row-holds h = go place refl
+  pub row_holds : (place ≡ 0 → ⊥) → limit ≤ place * limit
+  row_holds h = go place refl
     where
       go : (p : ℕ) → p ≡ place → limit ≤ place * limit
       go zero e = absurd (h (sym e))
@@ -75,21 +75,21 @@ module _ {S : Type 0} (goes stops : S → Clause → S → Type 0) (base limit p
   abbrev row : ℕ
   row = base + place * limit
 
-  fed-rest : (r : Bool) (s m t : S) → goes s c m → Fed goes stops (keeping nx row (row - limit) limit ++ raising nx row (row - limit) (limit - 1)) r m t → Fed goes stops (counter_input base limit nx (suc place)) r s t
-  fed-rest r s m t k f =
-      fed-as goes stops _ _ r s t (sym (input_is base limit place nx row h g refl))
-      (fed-on goes stops ((nx ∷ lit row ∷ []) ∷ []) _ r s m t (fed-one goes stops _ c true s m (ap (λ y. y ∷ []) (sym e)) k) f)
+  fed_rest : (r : Bool) (s m t : S) → goes s c m → Fed goes stops (keeping nx row (row - limit) limit ++ raising nx row (row - limit) (limit - 1)) r m t → Fed goes stops (counter_input base limit nx (suc place)) r s t
+  fed_rest r s m t k f =
+      fed_as goes stops _ _ r s t (sym (input_is base limit place nx row h g refl))
+      (fed_on goes stops ((nx ∷ lit row ∷ []) ∷ []) _ r s m t (fed_one goes stops _ c true s m (ap (λ y. y ∷ []) (sym e)) k) f)
 
-  pub fed-input : (r : Bool) (s m n t : S) → goes s c m → Fed goes stops (keeping nx row (row - limit) limit) true m n → Fed goes stops (raising nx row (row - limit) (limit - 1)) r n t → Fed goes stops (counter_input base limit nx (suc place)) r s t
-  fed-input r s m n t k f d = fed-rest r s m t k (fed-on goes stops _ _ r m n t f d)
+  pub fed_input : (r : Bool) (s m n t : S) → goes s c m → Fed goes stops (keeping nx row (row - limit) limit) true m n → Fed goes stops (raising nx row (row - limit) (limit - 1)) r n t → Fed goes stops (counter_input base limit nx (suc place)) r s t
+  fed_input r s m n t k f d = fed_rest r s m t k (fed_on goes stops _ _ r m n t f d)
 
-  pub fed-keeping : (r : Bool) (s m t : S) → r ≡ false → goes s c m → Fed goes stops (keeping nx row (row - limit) limit) r m t → Fed goes stops (counter_input base limit nx (suc place)) r s t
-  fed-keeping true s m t z k f = let y : ◌≡◌ {A = ℕ} 0 1 = cc in absurd (omega arith)
-  fed-keeping false s m t z k f = fed-rest false s m t k (fed-stop goes stops _ _ m t f)
+  pub fed_keeping : (r : Bool) (s m t : S) → r ≡ false → goes s c m → Fed goes stops (keeping nx row (row - limit) limit) r m t → Fed goes stops (counter_input base limit nx (suc place)) r s t
+  fed_keeping true s m t z k f = let y : ◌≡◌ {A = ℕ} 0 1 = cc in absurd (omega arith)
+  fed_keeping false s m t z k f = fed_rest false s m t k (fed_stop goes stops _ _ m t f)
 
 pub inputs_left : {S : Type 0} (goes stops : S → Clause → S → Type 0) (base K first n : ℕ) (s : S) →
     Left goes stops (counter base K 1 (up_from first n)) s (each_all (λ k. counter_input base K (neg (first + k)) (suc k)) (up_from (0 + 0) (n - 0))) s
 inputs_left goes stops base K first n s r t f =
     let z : first + 0 ≡ first = omega arith in
     let y : n - 0 ≡ n = omega arith in
-    fed-as goes stops _ _ r s t (ap (λ m. each_all (λ k. counter_input base K (neg (first + k)) (suc k)) (up_from 0 m)) y ∙ sym (inputs_are base K first 0 n) ∙ ap (λ v. counter base K 1 (up_from v n)) z) f
+    fed_as goes stops _ _ r s t (ap (λ m. each_all (λ k. counter_input base K (neg (first + k)) (suc k)) (up_from 0 m)) y ∙ sym (inputs_are base K first 0 n) ∙ ap (λ v. counter base K 1 (up_from v n)) z) f

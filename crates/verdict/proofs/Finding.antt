@@ -38,8 +38,8 @@ ends_open zero k d d' x = pick d.emptied refl x
 ends_open (suc n) k d d' x = ends_open n k x.0 d' x.1.2
 
 module _ (q : Problem) (a : Answer) (k k' : Memory) (m m₁ m' : Meaning) (s s' : Stream) (o o' : Open) (opened : Opens m q a (Ok o) m₁) (same : k' ≡ k) (kept : o'.claim ≡ o.claim) where
-  was-asked : (r : Reply) → Onward k' (desk_of o m₁ s) r (desk_of o' m' s') → WasAsked q a k m s r (desk_of o' m' s') m' s'
-  was-asked r w = record {
+  was_asked : (r : Reply) → Onward k' (desk_of o m₁ s) r (desk_of o' m' s') → WasAsked q a k m s r (desk_of o' m' s') m' s'
+  was_asked r w = record {
     untried = opened.0;
     plan = opened.1;
     fits = opened.2;
@@ -51,26 +51,26 @@ module _ (q : Problem) (a : Answer) (k k' : Memory) (m m₁ m' : Meaning) (s s' 
   }
 
   pub finds : (r : Reply) (v : Result Verdict RunFault) → Onward k' (desk_of o m₁ s) r (desk_of o' m' s') → Ends o' r v → Finds q a k m s v m' s'
-  finds (Refused f p) v w e = subst (λ y. Finds q a k m s y m' s') (sym e) (desk_of o' m' s', was-asked (Refused f p) w)
+  finds (Refused f p) v w e = subst (λ y. Finds q a k m s y m' s') (sym e) (desk_of o' m' s', was_asked (Refused f p) w)
   finds Taken v w e =
       subst (λ y. Finds q a k m s y m' s') (sym (pick o'.emptied (ends_emptied w.accepted k' (desk_of o m₁ s) (desk_of o' m' s') w.asked) e))
-      (desk_of o' m' s', (was-asked Taken w, ap verdict_for (kept ∙ ap (λ y. y.claim) opened.4) ∙ same_verdict q a))
+      (desk_of o' m' s', (was_asked Taken w, ap verdict_for (kept ∙ ap (λ y. y.claim) opened.4) ∙ same_verdict q a))
     where
       pick : (b : Bool) → T b → cond b (v ≡ Ok (verdict_for o'.claim)) (v ≡ Err (Unclosed (suc o'.last))) → v ≡ Ok (verdict_for o'.claim)
       pick true t e = e
       pick false t e = absurd t
   finds Nothing v w e =
       subst (λ y. Finds q a k m s y m' s') (sym (pick o'.emptied (ends_open w.accepted k' (desk_of o m₁ s) (desk_of o' m' s') w.asked) e))
-      (desk_of o' m' s', (was-asked Nothing w, refl))
+      (desk_of o' m' s', (was_asked Nothing w, refl))
     where
       pick : (b : Bool) → b ≡ false → cond b (v ≡ Ok (verdict_for o'.claim)) (v ≡ Err (Unclosed (suc o'.last))) → v ≡ Err (Unclosed (suc o'.last))
       pick true t e = absurd (subst T t tt)
       pick false t e = e
 
 module _ (q : Problem) (a : Answer) (k : Memory) (m m' : Meaning) (s s' : Stream) where
-  pub found-true : (v : Result Verdict RunFault) → Finds q a k m s v m' s' → FoundTrue q a v
-  found-true (Ok v) f = subst (Means q a) (sym f.1.1) (onward_law.sound q a m s k f.0 (is_plan q a f.1.0.plan) f.1.0.onward).1
-  found-true (Err e) f = tt
+  pub found_true : (v : Result Verdict RunFault) → Finds q a k m s v m' s' → FoundTrue q a v
+  found_true (Ok v) f = subst (Means q a) (sym f.1.1) (onward_law.sound q a m s k f.0 (is_plan q a f.1.0.plan) f.1.0.onward).1
+  found_true (Err e) f = tt
 
   pub found : (v : Result Verdict RunFault) → Finds q a k m s v m' s' → Found q a k m s v
   found (Ok v) f i p t good = ap Ok f.1.1
@@ -82,14 +82,14 @@ module _ (ls ls₁ ls' : List ℤ) (hs hs' : List ℕ) (kept : length ls₁ ≡ 
   zeros : (ls' ≡ replicate (length ls) (pos 0)) × (hs' ≡ replicate (length hs) 0)
   zeros = (zero-literals ∙ ap (λ n. replicate n (pos 0)) kept, zero-hints)
 
-  closed-leaves : (o : Open) (v : Result Verdict RunFault) → Closed o v → FindLeaves ls hs v ls' hs'
-  closed-leaves o v e = pick o.emptied e
+  closed_leaves : (o : Open) (v : Result Verdict RunFault) → Closed o v → FindLeaves ls hs v ls' hs'
+  closed_leaves o v e = pick o.emptied e
     where
       pick : (b : Bool) → cond b (v ≡ Ok (verdict_for o.claim)) (v ≡ Err (Unclosed (suc o.last))) → FindLeaves ls hs v ls' hs'
       pick true e = subst (λ y. FindLeaves ls hs y ls' hs') (sym e) zeros
       pick false e = subst (λ y. FindLeaves ls hs y ls' hs') (sym e) zeros
 
-  pub find-leaves : (o : Open) (r : Reply) (v : Result Verdict RunFault) → Ends o r v → FindLeaves ls hs v ls' hs'
-  find-leaves o (Refused f p) v e = subst (λ y. FindLeaves ls hs y ls' hs') (sym e) zeros
-  find-leaves o Taken v e = closed-leaves o v e
-  find-leaves o Nothing v e = closed-leaves o v e
+  pub find_leaves : (o : Open) (r : Reply) (v : Result Verdict RunFault) → Ends o r v → FindLeaves ls hs v ls' hs'
+  find_leaves o (Refused f p) v e = subst (λ y. FindLeaves ls hs y ls' hs') (sym e) zeros
+  find_leaves o Taken v e = closed_leaves o v e
+  find_leaves o Nothing v e = closed_leaves o v e

@@ -22,41 +22,41 @@ false_unit f c l t u =
     not_false_and_unset (value f l) (each_middle (λ x. T (is_false (value f x))) u.before l u.after (subst (Each (λ x. T (is_false (value f x)))) u.parts (each_from_every (λ x. is_false (value f x)) c t))) u.unset
 
 module _ (live : List Held) (f : Values) (h : ℕ) (c : Clause) (held : HeldAt live h c) where
-  same-unit : (c' : Clause) (l : ℤ) → HeldAt live h c' → Unit' f c' l → Unit' f c l
-  same-unit c' l k u = subst (λ x. Unit' f x l) (held_once live h c' c k held) u
+  same_unit : (c' : Clause) (l : ℤ) → HeldAt live h c' → Unit' f c' l → Unit' f c l
+  same_unit c' l k u = subst (λ x. Unit' f x l) (held_once live h c' c k held) u
 
   same_false : (c' : Clause) → HeldAt live h c' → T (all_false f c') → T (all_false f c)
   same_false c' k t = subst (λ x. T (all_false f x)) (held_once live h c' c k held) t
 
-  not-absent : T (not (is_live live h)) → ⊥
-  not-absent d = T_not (is_live live h) d (held_live live h c held)
+  not_absent : T (not (is_live live h)) → ⊥
+  not_absent d = T_not (is_live live h) d (held_live live h c held)
 
   -- a unit says no more than that the rest goes on from its literal
-  unit-chain : (l : ℤ) → Unit' f c l → (r : List ℕ) → Chain live (set_true f l) r ↔ Chain live f (h ∷ r)
-  unit-chain l u [] = ((λ k. absurd k), λ k. false_unit f c l (same_false k.0 k.1.0 k.1.1) u)
-  unit-chain l u (n ∷ r) = (
+  unit_chain : (l : ℤ) → Unit' f c l → (r : List ℕ) → Chain live (set_true f l) r ↔ Chain live f (h ∷ r)
+  unit_chain l u [] = ((λ k. absurd k), λ k. false_unit f c l (same_false k.0 k.1.0 k.1.1) u)
+  unit_chain l u (n ∷ r) = (
     (λ k. (c, l, (held, u, k))),
-    λ k. subst (λ x. Chain live (set_true f x) (n ∷ r)) (unit_once f c l k.1 u (same-unit k.0 k.1 k.2.0 k.2.1)) k.2.2,
+    λ k. subst (λ x. Chain live (set_true f x) (n ∷ r)) (unit_once f c l k.1 u (same_unit k.0 k.1 k.2.0 k.2.1)) k.2.2,
   )
 
-  unit-dead : (l : ℤ) → Unit' f c l → (r : List ℕ) → DeadHint live (set_true f l) r ↔ DeadHint live f (h ∷ r)
-  unit-dead l u r = ((λ k. inr (c, l, (held, u, k))), back)
+  unit_dead : (l : ℤ) → Unit' f c l → (r : List ℕ) → DeadHint live (set_true f l) r ↔ DeadHint live f (h ∷ r)
+  unit_dead l u r = ((λ k. inr (c, l, (held, u, k))), back)
     where
       back : DeadHint live f (h ∷ r) → DeadHint live (set_true f l) r
-      back (inl d) = absurd (not-absent d)
-      back (inr k) = subst (λ x. DeadHint live (set_true f x) r) (unit_once f c l k.1 u (same-unit k.0 k.1 k.2.0 k.2.1)) k.2.2
+      back (inl d) = absurd (not_absent d)
+      back (inr k) = subst (λ x. DeadHint live (set_true f x) r) (unit_once f c l k.1 u (same_unit k.0 k.1 k.2.0 k.2.1)) k.2.2
 
   -- without a unit no hint after it counts
-  stops-dead : ((l : ℤ) → Unit' f c l → ⊥) → (r : List ℕ) → DeadHint live f (h ∷ r) → ⊥
-  stops-dead n r (inl d) = not-absent d
-  stops-dead n r (inr k) = n k.1 (same-unit k.0 k.1 k.2.0 k.2.1)
+  stops_dead : ((l : ℤ) → Unit' f c l → ⊥) → (r : List ℕ) → DeadHint live f (h ∷ r) → ⊥
+  stops_dead n r (inl d) = not_absent d
+  stops_dead n r (inr k) = n k.1 (same_unit k.0 k.1 k.2.0 k.2.1)
 
-  stops-chain : ((l : ℤ) → Unit' f c l → ⊥) → (n : ℕ) (r : List ℕ) → Chain live f (h ∷ n ∷ r) → ⊥
-  stops-chain un n r k = un k.1 (same-unit k.0 k.1 k.2.0 k.2.1)
+  stops_chain : ((l : ℤ) → Unit' f c l → ⊥) → (n : ℕ) (r : List ℕ) → Chain live f (h ∷ n ∷ r) → ⊥
+  stops_chain un n r k = un k.1 (same_unit k.0 k.1 k.2.0 k.2.1)
 
-  useless-chain : (T (all_false f c) → ⊥) → ((l : ℤ) → Unit' f c l → ⊥) → (r : List ℕ) → Chain live f (h ∷ r) → ⊥
-  useless-chain a un [] k = a (same_false k.0 k.1.0 k.1.1)
-  useless-chain a un (n ∷ r) k = stops-chain un n r k
+  useless_chain : (T (all_false f c) → ⊥) → ((l : ℤ) → Unit' f c l → ⊥) → (r : List ℕ) → Chain live f (h ∷ r) → ⊥
+  useless_chain a un [] k = a (same_false k.0 k.1.0 k.1.1)
+  useless_chain a un (n ∷ r) k = stops_chain un n r k
 
 -- after some hints that were all units: the rest says of the present values what all of them say of the first
 abbrev pub AlongOn : List Held → Trial → List ℕ → Trial → List ℕ → Type 0
@@ -87,29 +87,29 @@ both : (m m' m'' : Meaning) → m' ≡ with_trial m m'.trial → m'' ≡ with_tr
 both m m' m'' e e' = e' ∙ ap (λ y. with_trial y m''.trial) e
 
 module _ (live : List Held) (hs : List ℕ) (h : ℕ) (r : List ℕ) where
-  next-on : (t t' t'' : Trial) → AlongOn live t hs t' (h ∷ r) → Says t' live h OneLeft t'' → AlongOn live t hs t'' r
-  next-on idle t' t'' a s = tt
-  next-on answered t' t'' a s = tt
-  next-on (running f) idle t'' a s = absurd a
-  next-on (running f) answered t'' a s = absurd a
-  next-on (running f) (running f') t'' a s =
+  next_on : (t t' t'' : Trial) → AlongOn live t hs t' (h ∷ r) → Says t' live h OneLeft t'' → AlongOn live t hs t'' r
+  next_on idle t' t'' a s = tt
+  next_on answered t' t'' a s = tt
+  next_on (running f) idle t'' a s = absurd a
+  next_on (running f) answered t'' a s = absurd a
+  next_on (running f) (running f') t'' a s =
       subst (λ y. AlongOn live (running f) hs y r) (sym s.2.2)
-      (Iff.trans (unit-chain live f' h s.0 s.2.0 s.1 s.2.1 r) a.0, Iff.trans (unit-dead live f' h s.0 s.2.0 s.1 s.2.1 r) a.1)
+      (Iff.trans (unit_chain live f' h s.0 s.2.0 s.1 s.2.1 r) a.0, Iff.trans (unit_dead live f' h s.0 s.2.0 s.1 s.2.1 r) a.1)
 
-  useless-on : (t t' t'' : Trial) → AlongOn live t hs t' (h ∷ r) → Says t' live h Useless t'' → Follow live t hs (Ok false)
-  useless-on idle t' t'' a s = tt
-  useless-on answered t' t'' a s = tt
-  useless-on (running f) idle t'' a s = absurd a
-  useless-on (running f) answered t'' a s = absurd a
-  useless-on (running f) (running f') t'' a s =
-      ((λ d. stops-dead live f' h s.0 s.1.0 s.1.2 r (a.1.1 d)), λ k. useless-chain live f' h s.0 s.1.0 s.1.1 s.1.2 r (a.0.1 k))
+  useless_on : (t t' t'' : Trial) → AlongOn live t hs t' (h ∷ r) → Says t' live h Useless t'' → Follow live t hs (Ok false)
+  useless_on idle t' t'' a s = tt
+  useless_on answered t' t'' a s = tt
+  useless_on (running f) idle t'' a s = absurd a
+  useless_on (running f) answered t'' a s = absurd a
+  useless_on (running f) (running f') t'' a s =
+      ((λ d. stops_dead live f' h s.0 s.1.0 s.1.2 r (a.1.1 d)), λ k. useless_chain live f' h s.0 s.1.0 s.1.1 s.1.2 r (a.0.1 k))
 
-  conflict-on : (t t' t'' : Trial) (b : Bool) → (T b → length r ≡ 0) → (length r ≡ 0 → T b) → AlongOn live t hs t' (h ∷ r) → Says t' live h Conflict t'' → Follow live t hs (Ok b)
-  conflict-on idle t' t'' b e e' a s = tt
-  conflict-on answered t' t'' b e e' a s = tt
-  conflict-on (running f) idle t'' b e e' a s = absurd a
-  conflict-on (running f) answered t'' b e e' a s = absurd a
-  conflict-on (running f) (running f') t'' b e e' a s = at r b e e' a.0 a.1
+  conflict_on : (t t' t'' : Trial) (b : Bool) → (T b → length r ≡ 0) → (length r ≡ 0 → T b) → AlongOn live t hs t' (h ∷ r) → Says t' live h Conflict t'' → Follow live t hs (Ok b)
+  conflict_on idle t' t'' b e e' a s = tt
+  conflict_on answered t' t'' b e e' a s = tt
+  conflict_on (running f) idle t'' b e e' a s = absurd a
+  conflict_on (running f) answered t'' b e e' a s = absurd a
+  conflict_on (running f) (running f') t'' b e e' a s = at r b e e' a.0 a.1
     where
       none' : (l : ℤ) → Unit' f' s.0 l → ⊥
       none' l u = false_unit f' s.0 l s.1.1 u
@@ -118,17 +118,17 @@ module _ (live : List Held) (hs : List ℕ) (h : ℕ) (r : List ℕ) where
       at [] true e e' x y = x.0 (s.0, (s.1.0, s.1.1))
       at [] false e e' x y = absurd (e' refl)
       at (n ∷ r) true e e' x y = let z : suc (length r) ≡ 0 = e tt in absurd (omega arith)
-      at (n ∷ r) false e e' x y = ((λ d. stops-dead live f' h s.0 s.1.0 none' (n ∷ r) (y.1 d)), λ k. stops-chain live f' h s.0 s.1.0 none' n r (x.1 k))
+      at (n ∷ r) false e e' x y = ((λ d. stops_dead live f' h s.0 s.1.0 none' (n ∷ r) (y.1 d)), λ k. stops_chain live f' h s.0 s.1.0 none' n r (x.1 k))
 
-  fault-on : (t t' : Trial) (e : BaseFault) → AlongOn live t hs t' (h ∷ r) → (m m' : Meaning) → m.trial ≡ t' → m.live ≡ live → Hints m h (Err e) m' → Follow live t hs (Err e)
-  fault-on idle t' e a m m' x y s = tt
-  fault-on answered t' e a m m' x y s = tt
-  fault-on (running f) idle e a m m' x y s = absurd a
-  fault-on (running f) answered e a m m' x y s = absurd a
-  fault-on (running f) (running f') Malformed a m m' x y s = absurd s
-  fault-on (running f) (running f') NoRoom a m m' x y s = absurd s
-  fault-on (running f) (running f') InTrial a m m' x y s = absurd (subst NotRunning x s.0)
-  fault-on (running f) (running f') NotLive a m m' x y s = a.1.0 (inl (subst (λ z. T (not (is_live z h))) y s.1))
+  fault_on : (t t' : Trial) (e : BaseFault) → AlongOn live t hs t' (h ∷ r) → (m m' : Meaning) → m.trial ≡ t' → m.live ≡ live → Hints m h (Err e) m' → Follow live t hs (Err e)
+  fault_on idle t' e a m m' x y s = tt
+  fault_on answered t' e a m m' x y s = tt
+  fault_on (running f) idle e a m m' x y s = absurd a
+  fault_on (running f) answered e a m m' x y s = absurd a
+  fault_on (running f) (running f') Malformed a m m' x y s = absurd s
+  fault_on (running f) (running f') NoRoom a m m' x y s = absurd s
+  fault_on (running f) (running f') InTrial a m m' x y s = absurd (subst NotRunning x s.0)
+  fault_on (running f) (running f') NotLive a m m' x y s = a.1.0 (inl (subst (λ z. T (not (is_live z h))) y s.1))
 
 end_on : (live : List Held) (hs : List ℕ) (t t' : Trial) → AlongOn live t hs t' [] → Follow live t hs (Ok false)
 end_on live hs idle t' a = tt
@@ -154,14 +154,14 @@ module _ (m m' m'' : Meaning) (hs : List ℕ) (i h : ℕ) (below : i < length hs
   said : (a : Hinted) → Says m'.trial m'.live h a m''.trial → Says m'.trial m.live h a m''.trial
   said a s = subst (λ y. Says m'.trial y h a m''.trial) (same_live m m' along.0) s
 
-  pub along-next : Hints m' h (Ok OneLeft) m'' → Along m hs m'' (drop (i + 1) hs)
-  along-next s = (both m m' m'' along.0 s.1, next-on m.live hs h (drop (i + 1) hs) m.trial m'.trial m''.trial here (said OneLeft s.0))
+  pub along_next : Hints m' h (Ok OneLeft) m'' → Along m hs m'' (drop (i + 1) hs)
+  along_next s = (both m m' m'' along.0 s.1, next_on m.live hs h (drop (i + 1) hs) m.trial m'.trial m''.trial here (said OneLeft s.0))
 
-  pub along-useless : Hints m' h (Ok Useless) m'' → Shows m hs (Ok false) m''
-  along-useless s = (useless-on m.live hs h (drop (i + 1) hs) m.trial m'.trial m''.trial here (said Useless s.0), both m m' m'' along.0 s.1)
+  pub along_useless : Hints m' h (Ok Useless) m'' → Shows m hs (Ok false) m''
+  along_useless s = (useless_on m.live hs h (drop (i + 1) hs) m.trial m'.trial m''.trial here (said Useless s.0), both m m' m'' along.0 s.1)
 
-  pub along-conflict : Hints m' h (Ok Conflict) m'' → Shows m hs (Ok (eqb (i + 1) (length hs))) m''
-  along-conflict s = (conflict-on m.live hs h (drop (i + 1) hs) m.trial m'.trial m''.trial (eqb (i + 1) (length hs)) last first here (said Conflict s.0), both m m' m'' along.0 s.1)
+  pub along_conflict : Hints m' h (Ok Conflict) m'' → Shows m hs (Ok (eqb (i + 1) (length hs))) m''
+  along_conflict s = (conflict_on m.live hs h (drop (i + 1) hs) m.trial m'.trial m''.trial (eqb (i + 1) (length hs)) last first here (said Conflict s.0), both m m' m'' along.0 s.1)
     where
       last : T (eqb (i + 1) (length hs)) → length (drop (i + 1) hs) ≡ 0
       last t = omega (arith, eqb→eq (i + 1) (length hs) t, length-drop (i + 1) hs)
@@ -171,9 +171,9 @@ module _ (m m' m'' : Meaning) (hs : List ℕ) (i h : ℕ) (below : i < length hs
           let same : length hs ≡ i + 1 = omega (arith, length-drop (i + 1) hs) in
           subst (λ y. T (eqb (i + 1) y)) (sym same) (eqb_refl (i + 1))
 
-  pub along-fault : (e : BaseFault) → Hints m' h (Err e) m'' → Shows m hs (Err e) m''
-  along-fault e s = (
-    fault-on m.live hs h (drop (i + 1) hs) m.trial m'.trial e here m' m'' refl (same_live m m' along.0) s,
+  pub along_fault : (e : BaseFault) → Hints m' h (Err e) m'' → Shows m hs (Err e) m''
+  along_fault e s = (
+    fault_on m.live hs h (drop (i + 1) hs) m.trial m'.trial e here m' m'' refl (same_live m m' along.0) s,
     let same : m'' ≡ m' = fault_same m' m'' h e s in subst (λ y. y ≡ with_trial m y.trial) (sym same) along.0,
   )
 

@@ -26,37 +26,37 @@ module _ (F n N S : ℕ) (f g h : ℕ → Bool) (z : Bool) (s t : ℕ → Bool) 
   pub laid : ℕ → Bool
   laid = place F f (place n g (place N h (place 1 (λ _. z) (place S s t))))
 
-  pub laid-1 : (v : ℕ) → v < F → laid v ≡ f v
+  pub laid_1 : (v : ℕ) → v < F → laid v ≡ f v
   unfolding laid
-  laid-1 v l = place_low F f (place n g (place N h (place 1 (λ _. z) (place S s t)))) v l
+  laid_1 v l = place_low F f (place n g (place N h (place 1 (λ _. z) (place S s t)))) v l
 
-  from-2 : (v k : ℕ) → v ≡ F + k → laid v ≡ place n g (place N h (place 1 (λ _. z) (place S s t))) k
+  from_2 : (v k : ℕ) → v ≡ F + k → laid v ≡ place n g (place N h (place 1 (λ _. z) (place S s t))) k
   unfolding laid
-  from-2 v k e = place_high F f (place n g (place N h (place 1 (λ _. z) (place S s t)))) v k e
+  from_2 v k e = place_high F f (place n g (place N h (place 1 (λ _. z) (place S s t)))) v k e
 
-  pub laid-2 : (k : ℕ) → k < n → laid (F + k) ≡ g k
-  laid-2 k l = from-2 (F + k) k refl ∙ place_low n g (place N h (place 1 (λ _. z) (place S s t))) k l
+  pub laid_2 : (k : ℕ) → k < n → laid (F + k) ≡ g k
+  laid_2 k l = from_2 (F + k) k refl ∙ place_low n g (place N h (place 1 (λ _. z) (place S s t))) k l
 
-  from-3 : (v k : ℕ) → v ≡ F + n + k → laid v ≡ place N h (place 1 (λ _. z) (place S s t)) k
-  from-3 v k e = from-2 v (n + k) (omega arith) ∙ place_high n g (place N h (place 1 (λ _. z) (place S s t))) (n + k) k refl
+  from_3 : (v k : ℕ) → v ≡ F + n + k → laid v ≡ place N h (place 1 (λ _. z) (place S s t)) k
+  from_3 v k e = from_2 v (n + k) (omega arith) ∙ place_high n g (place N h (place 1 (λ _. z) (place S s t))) (n + k) k refl
 
-  pub laid-3 : (k : ℕ) → k < N → laid (F + n + k) ≡ h k
-  laid-3 k l = from-3 (F + n + k) k refl ∙ place_low N h (place 1 (λ _. z) (place S s t)) k l
+  pub laid_3 : (k : ℕ) → k < N → laid (F + n + k) ≡ h k
+  laid_3 k l = from_3 (F + n + k) k refl ∙ place_low N h (place 1 (λ _. z) (place S s t)) k l
 
-  from-4 : (v k : ℕ) → v ≡ F + n + N + k → laid v ≡ place 1 (λ _. z) (place S s t) k
-  from-4 v k e = from-3 v (N + k) (omega arith) ∙ place_high N h (place 1 (λ _. z) (place S s t)) (N + k) k refl
+  from_4 : (v k : ℕ) → v ≡ F + n + N + k → laid v ≡ place 1 (λ _. z) (place S s t) k
+  from_4 v k e = from_3 v (N + k) (omega arith) ∙ place_high N h (place 1 (λ _. z) (place S s t)) (N + k) k refl
 
-  pub laid-4 : laid (F + n + N) ≡ z
-  laid-4 = from-4 (F + n + N) 0 (omega arith) ∙ place_low 1 (λ _. z) (place S s t) 0 (omega arith)
+  pub laid_4 : laid (F + n + N) ≡ z
+  laid_4 = from_4 (F + n + N) 0 (omega arith) ∙ place_low 1 (λ _. z) (place S s t) 0 (omega arith)
 
-  from-5 : (v k : ℕ) → v ≡ suc (F + n + N) + k → laid v ≡ place S s t k
-  from-5 v k e = from-4 v (1 + k) (omega arith) ∙ place_high 1 (λ _. z) (place S s t) (1 + k) k refl
+  from_5 : (v k : ℕ) → v ≡ suc (F + n + N) + k → laid v ≡ place S s t k
+  from_5 v k e = from_4 v (1 + k) (omega arith) ∙ place_high 1 (λ _. z) (place S s t) (1 + k) k refl
 
-  pub laid-5 : (v k : ℕ) → v ≡ suc (F + n + N) + k → k < S → laid v ≡ s k
-  laid-5 v k e l = from-5 v k e ∙ place_low S s t k l
+  pub laid_5 : (v k : ℕ) → v ≡ suc (F + n + N) + k → k < S → laid v ≡ s k
+  laid_5 v k e l = from_5 v k e ∙ place_low S s t k l
 
-  pub laid-6 : (v k : ℕ) → v ≡ suc (F + n + N) + S + k → laid v ≡ t k
-  laid-6 v k e = from-5 v (S + k) (omega arith) ∙ place_high S s t (S + k) k refl
+  pub laid_6 : (v k : ℕ) → v ≡ suc (F + n + N) + S + k → laid v ≡ t k
+  laid_6 v k e = from_5 v (S + k) (omega arith) ∙ place_high S s t (S + k) k refl
 
 -- registers in one stretch, row by row: at least j of the first i members pass the test
 pub tally : {X : Type 0} → (X → Bool) → List X → ℕ → ℕ → Bool

@@ -57,11 +57,11 @@ module _ (m : Meaning) (cs : List Clause) (i : ℕ) (m' : Meaning) (below : i < 
     variables = laid.variables;
   })
 
-  pub laid-fault : (f : BaseFault) (m'' : Meaning) → Adds m' here (Err f) m'' → m.trial ≡ idle → T (well_formed m.variables here) → T (not (fit_all m cs)) × (m''.trial ≡ idle) × (m''.room ≡ m.room)
-  laid-fault InTrial m'' a e w = absurd (a.0 (laid.trial ∙ e))
-  laid-fault NotLive m'' a e w = absurd a
-  laid-fault Malformed m'' a e w = absurd (T_not (well_formed m'.variables here) a.1 (subst (λ y. T (well_formed y here)) (sym laid.variables) w))
-  laid-fault NoRoom m'' a e w =
+  pub laid_fault : (f : BaseFault) (m'' : Meaning) → Adds m' here (Err f) m'' → m.trial ≡ idle → T (well_formed m.variables here) → T (not (fit_all m cs)) × (m''.trial ≡ idle) × (m''.room ≡ m.room)
+  laid_fault InTrial m'' a e w = absurd (a.0 (laid.trial ∙ e))
+  laid_fault NotLive m'' a e w = absurd a
+  laid_fault Malformed m'' a e w = absurd (T_not (well_formed m'.variables here) a.1 (subst (λ y. T (well_formed y here)) (sym laid.variables) w))
+  laid_fault NoRoom m'' a e w =
       (subst (λ y. T (not y)) (sym split) (and_false (fits m' here) (fit_all (with_added m' here) (drop (i + 1) cs)) a.2), ap (λ y. y.trial) a.3 ∙ laid.trial ∙ e, ap (λ y. y.room) a.3 ∙ laid.room)
 
 pub laid_all : (m : Meaning) (cs : List Clause) (m' : Meaning) → Laid m cs (length cs) m' → T (fit_all m cs) × (m' ≡ added_all m cs)
@@ -72,23 +72,23 @@ laid_all m cs m' l = (
 
 -- and over the base as it was before it was cleared
 module _ (m : Meaning) (q : Problem) (a : Answer) where
-  pub lays-ok : (m₁ m' : Meaning) → Clears m (opening_variables q a) (Ok tt) m₁ → Laid m₁ (opening_clauses q a) (length (opening_clauses q a)) m' → Lays m q a (Ok tt) m'
-  lays-ok m₁ m' c l =
+  pub lays_ok : (m₁ m' : Meaning) → Clears m (opening_variables q a) (Ok tt) m₁ → Laid m₁ (opening_clauses q a) (length (opening_clauses q a)) m' → Lays m q a (Ok tt) m'
+  lays_ok m₁ m' c l =
       let w = laid_all (cleared m (opening_variables q a)) (opening_clauses q a) m' (subst (λ y. Laid y (opening_clauses q a) (length (opening_clauses q a)) m') c.2 l) in
       (and_both (leb (opening_variables q a) m.room.variables) _ c.1 w.0, w.1)
 
-  pub lays-fault : (m₁ m' m'' : Meaning) (i : ℕ) (f : BaseFault) → Clears m (opening_variables q a) (Ok tt) m₁ → i < length (opening_clauses q a) → Laid m₁ (opening_clauses q a) i m' → Formed q a →
+  pub lays_fault : (m₁ m' m'' : Meaning) (i : ℕ) (f : BaseFault) → Clears m (opening_variables q a) (Ok tt) m₁ → i < length (opening_clauses q a) → Laid m₁ (opening_clauses q a) i m' → Formed q a →
       Adds m' (get_or (opening_clauses q a) i []) (Err f) m'' → Lays m q a (Err f) m''
-  lays-fault m₁ m' m'' i f c below l formed x =
-      let w = laid-fault (cleared m (opening_variables q a)) (opening_clauses q a) i m' below (subst (λ y. Laid y (opening_clauses q a) i m') c.2 l) f m'' x refl (each_at (λ d. T (well_formed (opening_variables q a) d)) [] (opening_clauses q a) i formed below) in
+  lays_fault m₁ m' m'' i f c below l formed x =
+      let w = laid_fault (cleared m (opening_variables q a)) (opening_clauses q a) i m' below (subst (λ y. Laid y (opening_clauses q a) i m') c.2 l) f m'' x refl (each_at (λ d. T (well_formed (opening_variables q a) d)) [] (opening_clauses q a) i formed below) in
       (and-not (leb (opening_variables q a) m.room.variables) _ w.0, w.1, w.2)
     where
       and-not : (x y : Bool) → T (not y) → T (not (x && y))
       and-not true y t = t
       and-not false y t = tt
 
-  pub lays-clear : (f : BaseFault) (m₁ : Meaning) → m.trial ≡ idle → Clears m (opening_variables q a) (Err f) m₁ → Lays m q a (Err f) m₁
-  lays-clear InTrial m₁ e c = absurd (c.0 e)
-  lays-clear NotLive m₁ e c = absurd c
-  lays-clear Malformed m₁ e c = absurd c
-  lays-clear NoRoom m₁ e c = (and_false (leb (opening_variables q a) m.room.variables) _ c.1, ap (λ y. y.trial) c.2 ∙ e, ap (λ y. y.room) c.2)
+  pub lays_clear : (f : BaseFault) (m₁ : Meaning) → m.trial ≡ idle → Clears m (opening_variables q a) (Err f) m₁ → Lays m q a (Err f) m₁
+  lays_clear InTrial m₁ e c = absurd (c.0 e)
+  lays_clear NotLive m₁ e c = absurd c
+  lays_clear Malformed m₁ e c = absurd c
+  lays_clear NoRoom m₁ e c = (and_false (leb (opening_variables q a) m.room.variables) _ c.1, ap (λ y. y.trial) c.2 ∙ e, ap (λ y. y.room) c.2)

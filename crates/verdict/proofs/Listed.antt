@@ -33,8 +33,8 @@ module _ (text : List ℕ) (ps : List PackageRow) (i : ℕ) (l : i < length ps) 
   abbrev rest : ℕ → List (List ℕ)
   rest k = row_names text (seen k) (drop k ps)
 
-  rest-step : (b : Bool) → has_version Changed text name (take i ps) ≡ b → rest i ≡ cond b (rest (i + 1)) (name ∷ rest (i + 1))
-  rest-step b e =
+  rest_step : (b : Bool) → has_version Changed text name (take i ps) ≡ b → rest i ≡ cond b (rest (i + 1)) (name ∷ rest (i + 1))
+  rest_step b e =
       ap (row_names text (seen i)) (drop_more ps i no_package l)
       ∙ ap (λ y. cond y (row_names text (seen i) (drop (i + 1) ps)) (name ∷ row_names text (name ∷ seen i) (drop (i + 1) ps))) (seen_are text name (take i ps) ∙ e) ∙ go b e
     where
@@ -48,8 +48,8 @@ module _ (text : List ℕ) (ps : List PackageRow) (i : ℕ) (l : i < length ps) 
   module _ (k : Indicator) where
     keep-step : (b c : Bool) → has_version Changed text name (take i ps) ≡ b → listed k text ps name ≡ c →
         listed_from k text ps i ≡ cond (not b && c) (name ∷ listed_from k text ps (i + 1)) (listed_from k text ps (i + 1))
-    keep-step true c e f = ap (keep (listed k text ps)) (rest-step true e)
-    keep-step false c e f = ap (keep (listed k text ps)) (rest-step false e) ∙ ap (λ y. cond y (name ∷ listed_from k text ps (i + 1)) (listed_from k text ps (i + 1))) f
+    keep-step true c e f = ap (keep (listed k text ps)) (rest_step true e)
+    keep-step false c e f = ap (keep (listed k text ps)) (rest_step false e) ∙ ap (λ y. cond y (name ∷ listed_from k text ps (i + 1)) (listed_from k text ps (i + 1))) f
 
     step : (r : Bool) → r ≡ listed_at k text ps i → listed_from k text ps i ≡ cond r (name ∷ listed_from k text ps (i + 1)) (listed_from k text ps (i + 1))
     step r e = keep-step _ _ refl refl ∙ ap (λ y. cond y (name ∷ listed_from k text ps (i + 1)) (listed_from k text ps (i + 1))) (sym e)

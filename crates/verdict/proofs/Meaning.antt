@@ -29,20 +29,20 @@ on_plan_counts n q s [] None f e = ((plans_agree.none q s).0 f, cc, cc)
 on_plan_counts n q s (b ∷ bs) None f e = never cc
 
 module _ (k : Rooms) (p a c : List ℕ) (n : Counts) where
-  on-answer : (q : Problem) (o : Result Answered AnswerFault) → read_problem k.packages k.constraints p ≡ Ok q → read_answer q.packages k.table a ≡ o → on_answer q c o ≡ Ok (Some n) → Means k p a (Some (Plan n))
-  on-answer q (Err f) r w e = never cc
-  on-answer q (Ok failed) r w e = never cc
-  on-answer q (Ok (given t)) r w e = let h = on_plan_counts n q (set_of t) c (first_false (set_of t) (plan_clauses q)) refl e in (q, t, r, w, h.0, h.1, h.2)
+  on_answer_counts : (q : Problem) (o : Result Answered AnswerFault) → read_problem k.packages k.constraints p ≡ Ok q → read_answer q.packages k.table a ≡ o → on_answer q c o ≡ Ok (Some n) → Means k p a (Some (Plan n))
+  on_answer_counts q (Err f) r w e = never cc
+  on_answer_counts q (Ok failed) r w e = never cc
+  on_answer_counts q (Ok (given t)) r w e = let h = on_plan_counts n q (set_of t) c (first_false (set_of t) (plan_clauses q)) refl e in (q, t, r, w, h.0, h.1, h.2)
 
-  on-problem : (o : Result Problem ProblemFault) → read_problem k.packages k.constraints p ≡ o → on_problem k.table a c o ≡ Ok (Some n) → Means k p a (Some (Plan n))
-  on-problem (Err f) r e = never cc
-  on-problem (Ok q) r e = on-answer q (read_answer q.packages k.table a) r refl e
+  on_problem_counts : (o : Result Problem ProblemFault) → read_problem k.packages k.constraints p ≡ o → on_problem k.table a c o ≡ Ok (Some n) → Means k p a (Some (Plan n))
+  on_problem_counts (Err f) r e = never cc
+  on_problem_counts (Ok q) r e = on_answer_counts q (read_answer q.packages k.table a) r refl e
 
-  on-files : (o : Result (Unit {0}) VerdictFault) → then o (λ _. on_problem k.table a c (read_problem k.packages k.constraints p)) ≡ Ok (Some n) → Means k p a (Some (Plan n))
-  on-files (Err f) e = never cc
-  on-files (Ok u) e = on-problem (read_problem k.packages k.constraints p) refl e
+  on_files : (o : Result (Unit {0}) VerdictFault) → then o (λ _. on_problem k.table a c (read_problem k.packages k.constraints p)) ≡ Ok (Some n) → Means k p a (Some (Plan n))
+  on_files (Err f) e = never cc
+  on_files (Ok u) e = on_problem_counts (read_problem k.packages k.constraints p) refl e
 
 pub means : (k : Rooms) (p a c : List ℕ) (l : Option Line) → l ≡ line_of (judged k p a c) → Means k p a l
 means k p a c None e = tt
 means k p a c (Some (Refused r)) e = tt
-means k p a c (Some (Plan n)) e = on-files k p a c n (lengths_ok p a c) (plan_judged n (judged k p a c) e)
+means k p a c (Some (Plan n)) e = on_files k p a c n (lengths_ok p a c) (plan_judged n (judged k p a c) e)

@@ -22,42 +22,42 @@ module _ (q : Problem) where
   abbrev L : ℕ
   L = length q.packages
 
-  pub stanzas-between : Each (λ i. Between (length q.packages) i.number) (stanzas q)
-  stanzas-between = each_weaker (λ i. (1 ≤ i.number) × (i.number < 1 + length q.packages)) (λ i. Between L i.number) (λ i h. (omega arith, omega arith)) (stanzas q) (numbered_between 1 q.packages)
+  pub stanzas_between : Each (λ i. Between (length q.packages) i.number) (stanzas q)
+  stanzas_between = each_weaker (λ i. (1 ≤ i.number) × (i.number < 1 + length q.packages)) (λ i. Between L i.number) (λ i h. (omega arith, omega arith)) (stanzas q) (numbered_between 1 q.packages)
 
-  pub versions-between : (n : List ℕ) → Each (λ i. Between (length q.packages) i.number) (versions_of q n)
-  versions-between n = each_keep (λ i. Between L i.number) _ (stanzas q) stanzas-between
+  pub versions_between : (n : List ℕ) → Each (λ i. Between (length q.packages) i.number) (versions_of q n)
+  versions_between n = each_keep (λ i. Between L i.number) _ (stanzas q) stanzas_between
 
-  meeting-between : (cs : List Constraint) → Each (Between L) (meeting q cs)
-  meeting-between cs = each-each (Between L) (λ k. k.number) _ (each_keep (λ i. Between L i.number) (λ k. some (λ c. satisfies c k.stanza) cs) (stanzas q) stanzas-between)
+  meeting_between : (cs : List Constraint) → Each (Between L) (meeting q cs)
+  meeting_between cs = each-each (Between L) (λ k. k.number) _ (each_keep (λ i. Between L i.number) (λ k. some (λ c. satisfies c k.stanza) cs) (stanzas q) stanzas_between)
 
   no_within : (i : ℕ) → Between L i → variable_of (neg i) ≤ L
   no_within i h = omega arith
 
-  yes-within : (js : List ℕ) → Each (Between L) js → Within L (each lit js)
-  yes-within js h = each-each (λ l. variable_of l ≤ L) lit js (each_weaker (Between L) (λ j. j ≤ L) (λ j k. k.1) js h)
+  yes_within : (js : List ℕ) → Each (Between L) js → Within L (each lit js)
+  yes_within js h = each-each (λ l. variable_of l ≤ L) lit js (each_weaker (Between L) (λ j. j ≤ L) (λ j k. k.1) js h)
 
-  put-within : (i : ℕ) (js : List ℕ) → Between L i → Each (Between L) js → Within L (put i js)
-  put-within i [] h g = (no_within i h, tt)
-  put-within i (j ∷ js) h g =
+  put_within : (i : ℕ) (js : List ℕ) → Between L i → Each (Between L) js → Within L (put i js)
+  put_within i [] h g = (no_within i h, tt)
+  put_within i (j ∷ js) h g =
       elim (ltb i j) as (λ b. Within L (cond b (neg i ∷ each lit (j ∷ js)) (lit j ∷ put i js)))
-      [ true ↦ (no_within i h, yes-within (j ∷ js) g) | false ↦ (g.0.1, put-within i js h g.1) ]
+      [ true ↦ (no_within i h, yes_within (j ∷ js) g) | false ↦ (g.0.1, put_within i js h g.1) ]
 
-  needs-within : (i : ℕ) (js : List ℕ) → Between L i → Each (Between L) js → Each (Within L) (needs i js)
-  needs-within i js h g = elim (some (eqb i) js) as (λ b. Each (Within L) (cond b [] (put i js ∷ []))) [ true ↦ tt | false ↦ (put-within i js h g, tt) ]
+  needs_within : (i : ℕ) (js : List ℕ) → Between L i → Each (Between L) js → Each (Within L) (needs i js)
+  needs_within i js h g = elim (some (eqb i) js) as (λ b. Each (Within L) (cond b [] (put i js ∷ []))) [ true ↦ tt | false ↦ (put_within i js h g, tt) ]
 
-  notBoth-within : (i j : ℕ) → Between L i → Between L j → Within L (not_both i j)
-  notBoth-within i j h g =
+  not_both_within : (i j : ℕ) → Between L i → Between L j → Within L (not_both i j)
+  not_both_within i j h g =
       elim (ltb i j) as (λ b. Within L (cond b (neg i ∷ neg j ∷ []) (neg j ∷ neg i ∷ [])))
       [ true ↦ (no_within i h, (no_within j g, tt)) | false ↦ (no_within j g, (no_within i h, tt)) ]
 
-  ofStanza-within : (i : Numbered) → Between L i.number → Each (Within L) (of_stanza q i)
-  ofStanza-within i h =
+  of_stanza_within : (i : Numbered) → Between L i.number → Each (Within L) (of_stanza q i)
+  of_stanza_within i h =
       each_append (Within L) (each_all dep i.stanza.depends) (each_all con i.stanza.conflicts)
-      (each_each_all (Within L) dep i.stanza.depends (each_since (λ cs. Each (Within L) (dep cs)) (λ cs. needs-within i.number (meeting q cs) h (meeting-between cs)) i.stanza.depends))
+      (each_each_all (Within L) dep i.stanza.depends (each_since (λ cs. Each (Within L) (dep cs)) (λ cs. needs_within i.number (meeting q cs) h (meeting_between cs)) i.stanza.depends))
       (each_each_all (Within L) con i.stanza.conflicts (each_since (λ c. Each (Within L) (con c))
-      (λ c. each-each (Within L) (not_both i.number) (others c) (each_weaker (Between L) (λ j. Within L (not_both i.number j)) (λ j g. notBoth-within i.number j h g) (others c)
-      (each_keep (Between L) (λ j. not (eqb i.number j)) (meeting q (c ∷ [])) (meeting-between (c ∷ []))))) i.stanza.conflicts))
+      (λ c. each-each (Within L) (not_both i.number) (others c) (each_weaker (Between L) (λ j. Within L (not_both i.number j)) (λ j g. not_both_within i.number j h g) (others c)
+      (each_keep (Between L) (λ j. not (eqb i.number j)) (meeting q (c ∷ [])) (meeting_between (c ∷ []))))) i.stanza.conflicts))
     where
       dep : List Constraint → List Clause
       dep cs = needs i.number (meeting q cs)
@@ -68,14 +68,14 @@ module _ (q : Problem) where
       con : Constraint → List Clause
       con c = each (not_both i.number) (others c)
 
-  pub plan-within : Each (Within (length q.packages)) (plan_clauses q)
-  plan-within =
+  pub plan_within : Each (Within (length q.packages)) (plan_clauses q)
+  plan_within =
       each_append (Within L) (each_all (of_stanza q) (stanzas q) ++ each inst q.install) (each_all rem q.remove)
       (each_append (Within L) (each_all (of_stanza q) (stanzas q)) (each inst q.install)
-      (each_each_all (Within L) (of_stanza q) (stanzas q) (each_weaker (λ i. Between L i.number) (λ i. Each (Within L) (of_stanza q i)) ofStanza-within (stanzas q) stanzas-between))
-      (each-each (Within L) inst q.install (each_since (λ c. Within L (inst c)) (λ c. yes-within (meeting q (c ∷ [])) (meeting-between (c ∷ []))) q.install)))
+      (each_each_all (Within L) (of_stanza q) (stanzas q) (each_weaker (λ i. Between L i.number) (λ i. Each (Within L) (of_stanza q i)) of_stanza_within (stanzas q) stanzas_between))
+      (each-each (Within L) inst q.install (each_since (λ c. Within L (inst c)) (λ c. yes_within (meeting q (c ∷ [])) (meeting_between (c ∷ []))) q.install)))
       (each_each_all (Within L) rem q.remove (each_since (λ c. Each (Within L) (rem c))
-      (λ c. each-each (Within L) (λ j. neg j ∷ []) (meeting q (c ∷ [])) (each_weaker (Between L) (λ j. Within L (neg j ∷ [])) (λ j g. (no_within j g, tt)) (meeting q (c ∷ [])) (meeting-between (c ∷ [])))) q.remove))
+      (λ c. each-each (Within L) (λ j. neg j ∷ []) (meeting q (c ∷ [])) (each_weaker (Between L) (λ j. Within L (neg j ∷ [])) (λ j g. (no_within j g, tt)) (meeting q (c ∷ [])) (meeting_between (c ∷ [])))) q.remove))
     where
       inst : Constraint → Clause
       inst c = each lit (meeting q (c ∷ []))

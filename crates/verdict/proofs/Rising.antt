@@ -8,13 +8,13 @@ use Rattle.std.specs.Str.{bytes_eq}
 use Rattle.problem.specs.Cudf.{Problem, Package, Constraint, Numbered, numbered, stanzas, satisfies, versions_of, names, installed_names, removed_count, changed_count}
 use Rattle.text.specs.Literals.{Clause, lit, neg, variable_of}
 use Rattle.problem.specs.PlanClauses.{put, needs, meeting, not_both, of_stanza, plan_clauses}
-use Rattle.verdict.specs.Opening.{register, counter_input, counter, firstRemoved, inputs, allNames, firstChanged, choice, firstS, firstT, variables, removedClauses, changedClauses, atMostR, fewerR, fewerC, opening}
+use Rattle.verdict.specs.Opening.{register, counter_input, counter, first_removed, inputs, all_names, first_changed, choice, first_s, first_t, variables, removed_clauses, changed_clauses, at_most_r, fewer_r, fewer_c, opening}
 use Rattle.clauses.specs.ClauseBase.{well_formed}
 use Rattle.verdict.specs.Session.{Answer, fail, set, opening_variables, opening_clauses}
 use Rattle.text.proofs.Members.{and_both, each_since, each_weaker, each_append, each-each, each_each_all}
 use Rattle.verdict.proofs.Counters.{each_up_from}
 use Rattle.verdict.proofs.Laid.{register_at, length_up_from}
-use Rattle.verdict.proofs.Ranges.{Between, stanzas-between, versions-between}
+use Rattle.verdict.proofs.Ranges.{Between, stanzas_between, versions_between}
 use Rattle.verdict.proofs.Better.{removed_bound, changed_bound}
 
 -- each clause of an opening is well-formed
@@ -124,27 +124,27 @@ module _ (q : Problem) where
   abbrev L : ℕ
   L = length q.packages
 
-  meeting-up : (cs : List Constraint) → Up 0 L (meeting q cs)
-  meeting-up cs = kept_up (λ k. some (λ c. satisfies c k.stanza) cs) 0 L 1 q.packages (omega arith) (omega arith)
+  meeting_up : (cs : List Constraint) → Up 0 L (meeting q cs)
+  meeting_up cs = kept_up (λ k. some (λ c. satisfies c k.stanza) cs) 0 L 1 q.packages (omega arith) (omega arith)
 
-  up-between : (lo : ℕ) (js : List ℕ) → Up lo L js → Each (λ j. (0 < j) × (j ≤ L)) js
-  up-between lo [] u = tt
-  up-between lo (j ∷ js) u = ((omega arith, u.1), up-between j js u.2)
+  up_between : (lo : ℕ) (js : List ℕ) → Up lo L js → Each (λ j. (0 < j) × (j ≤ L)) js
+  up_between lo [] u = tt
+  up_between lo (j ∷ js) u = ((omega arith, u.1), up_between j js u.2)
 
-  conflict-rising : (i : ℕ) → Between L i → (js : List ℕ) → Each (λ j. (0 < j) × (j ≤ L)) js → Each (Rising 0 L) (each (not_both i) (keep (λ j. not (eqb i j)) js))
-  conflict-rising i b [] h = tt
-  conflict-rising i b (j ∷ js) h = pick (not (eqb i j)) refl (conflict-rising i b js h.1)
+  conflict_rising : (i : ℕ) → Between L i → (js : List ℕ) → Each (λ j. (0 < j) × (j ≤ L)) js → Each (Rising 0 L) (each (not_both i) (keep (λ j. not (eqb i j)) js))
+  conflict_rising i b [] h = tt
+  conflict_rising i b (j ∷ js) h = pick (not (eqb i j)) refl (conflict_rising i b js h.1)
     where
       pick : (t : Bool) → not (eqb i j) ≡ t → Each (Rising 0 L) (each (not_both i) (keep (λ j. not (eqb i j)) js)) →
           Each (Rising 0 L) (each (not_both i) (cond t (j ∷ keep (λ j. not (eqb i j)) js) (keep (λ j. not (eqb i j)) js)))
       pick true e r = (not_both_rising L i j b.0 b.1 h.0.0 h.0.1 (subst T (sym e) tt), r)
       pick false e r = r
 
-  ofStanza-rising : (i : Numbered) → Between L i.number → Each (Rising 0 L) (of_stanza q i)
-  ofStanza-rising i h =
+  of_stanza_rising : (i : Numbered) → Between L i.number → Each (Rising 0 L) (of_stanza q i)
+  of_stanza_rising i h =
       each_append (Rising 0 L) (each_all dep i.stanza.depends) (each_all con i.stanza.conflicts)
-      (each_each_all (Rising 0 L) dep i.stanza.depends (each_since (λ cs. Each (Rising 0 L) (dep cs)) (λ cs. needs_rising L i.number (meeting q cs) h.0 h.1 (meeting-up cs)) i.stanza.depends))
-      (each_each_all (Rising 0 L) con i.stanza.conflicts (each_since (λ c. Each (Rising 0 L) (con c)) (λ c. conflict-rising i.number h (meeting q (c ∷ [])) (up-between 0 (meeting q (c ∷ [])) (meeting-up (c ∷ [])))) i.stanza.conflicts))
+      (each_each_all (Rising 0 L) dep i.stanza.depends (each_since (λ cs. Each (Rising 0 L) (dep cs)) (λ cs. needs_rising L i.number (meeting q cs) h.0 h.1 (meeting_up cs)) i.stanza.depends))
+      (each_each_all (Rising 0 L) con i.stanza.conflicts (each_since (λ c. Each (Rising 0 L) (con c)) (λ c. conflict_rising i.number h (meeting q (c ∷ [])) (up_between 0 (meeting q (c ∷ [])) (meeting_up (c ∷ [])))) i.stanza.conflicts))
     where
       dep : List Constraint → List Clause
       dep cs = needs i.number (meeting q cs)
@@ -152,14 +152,14 @@ module _ (q : Problem) where
       con : Constraint → List Clause
       con c = each (not_both i.number) (keep (λ j. not (eqb i.number j)) (meeting q (c ∷ [])))
 
-  plan-rising : Each (Rising 0 L) (plan_clauses q)
-  plan-rising =
+  plan_rising : Each (Rising 0 L) (plan_clauses q)
+  plan_rising =
       each_append (Rising 0 L) (each_all (of_stanza q) (stanzas q) ++ each inst q.install) (each_all rem q.remove)
       (each_append (Rising 0 L) (each_all (of_stanza q) (stanzas q)) (each inst q.install)
-      (each_each_all (Rising 0 L) (of_stanza q) (stanzas q) (each_weaker (λ i. Between L i.number) (λ i. Each (Rising 0 L) (of_stanza q i)) ofStanza-rising (stanzas q) (stanzas-between q)))
-      (each-each (Rising 0 L) inst q.install (each_since (λ c. Rising 0 L (inst c)) (λ c. yes_rising 0 L (meeting q (c ∷ [])) (meeting-up (c ∷ []))) q.install)))
+      (each_each_all (Rising 0 L) (of_stanza q) (stanzas q) (each_weaker (λ i. Between L i.number) (λ i. Each (Rising 0 L) (of_stanza q i)) of_stanza_rising (stanzas q) (stanzas_between q)))
+      (each-each (Rising 0 L) inst q.install (each_since (λ c. Rising 0 L (inst c)) (λ c. yes_rising 0 L (meeting q (c ∷ [])) (meeting_up (c ∷ []))) q.install)))
       (each_each_all (Rising 0 L) rem q.remove (each_since (λ c. Each (Rising 0 L) (rem c))
-      (λ c. each-each (Rising 0 L) (λ j. neg j ∷ []) (meeting q (c ∷ [])) (each_weaker (λ j. (0 < j) × (j ≤ L)) (λ j. Rising 0 L (neg j ∷ [])) (λ j g. (omega arith, omega arith, tt)) (meeting q (c ∷ [])) (up-between 0 (meeting q (c ∷ [])) (meeting-up (c ∷ []))))) q.remove))
+      (λ c. each-each (Rising 0 L) (λ j. neg j ∷ []) (meeting q (c ∷ [])) (each_weaker (λ j. (0 < j) × (j ≤ L)) (λ j. Rising 0 L (neg j ∷ [])) (λ j g. (omega arith, omega arith, tt)) (meeting q (c ∷ [])) (up_between 0 (meeting q (c ∷ [])) (meeting_up (c ∷ []))))) q.remove))
     where
       inst : Constraint → Clause
       inst c = each lit (meeting q (c ∷ []))
@@ -175,9 +175,9 @@ module _ (base k V : ℕ) (b : 1 ≤ base) where
   next_row : (i j j' : ℕ) → j ≤ j' → register base (suc k) (suc i) (suc j) < register base (suc k) (suc (suc i)) (suc j')
   next_row i j j' h = omega (arith, register_at base (suc k) i j, register_at base (suc k) (suc i) j', suc-mul i (suc k))
 
-  input-rising : (n i x : ℕ) → base + n * suc k ≤ suc V → i < n → 1 ≤ x → x < base → Each (Rising 0 V) (counter_input base (suc k) (neg x) (suc i))
-  input-rising n zero x u h l g = ((omega arith, omega (arith, at_register n 0 0 u h (omega arith)), (omega (arith, register_at base (suc k) 0 0), at_register n 0 0 u h (omega arith), tt)), tt)
-  input-rising n (suc i) x u h l g =
+  input_rising : (n i x : ℕ) → base + n * suc k ≤ suc V → i < n → 1 ≤ x → x < base → Each (Rising 0 V) (counter_input base (suc k) (neg x) (suc i))
+  input_rising n zero x u h l g = ((omega arith, omega (arith, at_register n 0 0 u h (omega arith)), (omega (arith, register_at base (suc k) 0 0), at_register n 0 0 u h (omega arith), tt)), tt)
+  input_rising n (suc i) x u h l g =
       each_append (Rising 0 V) (head ++ each keeps (up_from 1 (suc k))) (each adds (up_from 1 k))
       (each_append (Rising 0 V) head (each keeps (up_from 1 (suc k))) (first, tt)
       (each-each (Rising 0 V) keeps (up_from 1 (suc k)) (each_up_from (λ j. Rising 0 V (keeps j)) 1 (suc k) keep_one)))
@@ -216,11 +216,11 @@ module _ (base k V : ℕ) (b : 1 ≤ base) where
           let z : base ≤ register base (suc k) (suc i) (suc j) = omega (arith, register_at base (suc k) i j) in
           (omega arith, omega arith, (omega arith, omega arith, (omega arith, v, tt)))
 
-  inputs-rising : (n i : ℕ) (xs : List ℕ) → base + n * suc k ≤ suc V → i + length xs ≤ n → Each (λ x. (1 ≤ x) × (x < base)) xs → Each (Rising 0 V) (counter base (suc k) (suc i) xs)
-  inputs-rising n i [] u h g = tt
-  inputs-rising n i (x ∷ xs) u h g =
+  inputs_rising : (n i : ℕ) (xs : List ℕ) → base + n * suc k ≤ suc V → i + length xs ≤ n → Each (λ x. (1 ≤ x) × (x < base)) xs → Each (Rising 0 V) (counter base (suc k) (suc i) xs)
+  inputs_rising n i [] u h g = tt
+  inputs_rising n i (x ∷ xs) u h g =
       each_append (Rising 0 V) (counter_input base (suc k) (neg x) (suc i)) (counter base (suc k) (suc (suc i)) xs)
-      (input-rising n i x u (omega arith) g.0.0 g.0.1) (inputs-rising n (suc i) xs u (omega arith) g.1)
+      (input_rising n i x u (omega arith) g.0.0 g.0.1) (inputs_rising n (suc i) xs u (omega arith) g.1)
 
 counter_rising : (base K V n : ℕ) (xs : List ℕ) → 1 ≤ base → base + n * K ≤ suc V → length xs ≤ n → Each (λ x. (1 ≤ x) × (x < base)) xs → Each (Rising 0 V) (counter base K 1 xs)
 counter_rising base zero V n xs b u h g = none 1 xs
@@ -228,7 +228,7 @@ counter_rising base zero V n xs b u h g = none 1 xs
     none : (i : ℕ) (xs : List ℕ) → Each (Rising 0 V) (counter base 0 i xs)
     none i [] = tt
     none i (x ∷ xs) = none (suc i) xs
-counter_rising base (suc k) V n xs b u h g = inputs-rising base k V b n 0 xs u (omega arith) g
+counter_rising base (suc k) V n xs b u h g = inputs_rising base k V b n 0 xs u (omega arith) g
 
 module _ (q : Problem) (r c : ℕ) (rin : r ≤ length (installed_names q)) (cin : c ≤ length (names q)) where
   abbrev V : ℕ
@@ -237,20 +237,20 @@ module _ (q : Problem) (r c : ℕ) (rin : r ≤ length (installed_names q)) (cin
   abbrev packs : ℕ
   packs = length q.packages
 
-  removed-rising : (v : ℕ) (ns : List (List ℕ)) → packs < v → v + length ns ≤ suc V → Each (Rising 0 V) (removedClauses q r c v ns)
-  removed-rising v [] h u = tt
-  removed-rising v (n ∷ ns) h u = (
+  removed_rising : (v : ℕ) (ns : List (List ℕ)) → packs < v → v + length ns ≤ suc V → Each (Rising 0 V) (removed_clauses q r c v ns)
+  removed_rising v [] h u = tt
+  removed_rising v (n ∷ ns) h u = (
     rising_last 0 packs v V (each (λ i. lit i.number) (versions_of q n)) h (omega arith) (omega arith)
         (yes_number 0 packs (versions_of q n) (kept_up (λ i. bytes_eq n i.stanza.name) 0 packs 1 q.packages (omega arith) (omega arith))),
-    removed-rising (suc v) ns (omega arith) (omega arith),
+    removed_rising (suc v) ns (omega arith) (omega arith),
   )
 
-  changed-rising : (v : ℕ) (ns : List (List ℕ)) → packs < v → v + length ns ≤ suc V → Each (Rising 0 V) (changedClauses q r c v ns)
-  changed-rising v [] h u = tt
-  changed-rising v (n ∷ ns) h u =
-      each_append (Rising 0 V) (each one (versions_of q n)) (changedClauses q r c (suc v) ns)
-      (each-each (Rising 0 V) one (versions_of q n) (each_weaker (λ i. Between packs i.number) (λ i. Rising 0 V (one i)) two (versions_of q n) (versions-between q n)))
-      (changed-rising (suc v) ns (omega arith) (omega arith))
+  changed_rising : (v : ℕ) (ns : List (List ℕ)) → packs < v → v + length ns ≤ suc V → Each (Rising 0 V) (changed_clauses q r c v ns)
+  changed_rising v [] h u = tt
+  changed_rising v (n ∷ ns) h u =
+      each_append (Rising 0 V) (each one (versions_of q n)) (changed_clauses q r c (suc v) ns)
+      (each-each (Rising 0 V) one (versions_of q n) (each_weaker (λ i. Between packs i.number) (λ i. Rising 0 V (one i)) two (versions_of q n) (versions_between q n)))
+      (changed_rising (suc v) ns (omega arith) (omega arith))
     where
       one : Numbered → Clause
       one i = cond i.stanza.installed (lit i.number) (neg i.number) ∷ lit v ∷ []
@@ -262,77 +262,77 @@ module _ (q : Problem) (r c : ℕ) (rin : r ≤ length (installed_names q)) (cin
             | false ↦ (omega arith, omega arith, (omega arith, omega arith, tt))
           ]
 
-  atMost-rising : (n : ℕ) → n ≡ inputs q r c → Each (Rising 0 V) (atMostR q r c n)
-  atMost-rising zero e = tt
-  atMost-rising (suc n) e =
-      let v : register (firstS q r c) (suc r) (suc n) (suc r) ≤ V = at_register (firstS q r c) r V (omega arith) (inputs q r c) n r (omega arith) (omega arith) (omega arith) in
+  at_most_rising : (n : ℕ) → n ≡ inputs q r c → Each (Rising 0 V) (at_most_r q r c n)
+  at_most_rising zero e = tt
+  at_most_rising (suc n) e =
+      let v : register (first_s q r c) (suc r) (suc n) (suc r) ≤ V = at_register (first_s q r c) r V (omega arith) (inputs q r c) n r (omega arith) (omega arith) (omega arith) in
       ((omega arith, omega arith, tt), tt)
 
-  fewerR-rising : (n k : ℕ) → n ≡ inputs q r c → k ≡ r → Rising 0 V (fewerR q r c k)
-  fewerR-rising n zero e f = (omega arith, omega arith, tt)
-  fewerR-rising zero (suc k) e f = absurd (omega arith)
-  fewerR-rising (suc n) (suc k) e f =
-      let v : register (firstS q r c) (suc r) (suc n) (suc k) ≤ V = at_register (firstS q r c) r V (omega arith) (inputs q r c) n k (omega arith) (omega arith) (omega arith) in
-      let z : firstS q r c ≤ register (firstS q r c) (suc r) (suc n) (suc k) = omega (arith, register_at (firstS q r c) (suc r) n k) in
-      subst (λ y. Rising 0 V (neg (choice q r c) ∷ neg (register (firstS q r c) (suc r) y (suc k)) ∷ [])) e (omega arith, omega arith, (omega arith, omega arith, tt))
+  fewer_r_rising : (n k : ℕ) → n ≡ inputs q r c → k ≡ r → Rising 0 V (fewer_r q r c k)
+  fewer_r_rising n zero e f = (omega arith, omega arith, tt)
+  fewer_r_rising zero (suc k) e f = absurd (omega arith)
+  fewer_r_rising (suc n) (suc k) e f =
+      let v : register (first_s q r c) (suc r) (suc n) (suc k) ≤ V = at_register (first_s q r c) r V (omega arith) (inputs q r c) n k (omega arith) (omega arith) (omega arith) in
+      let z : first_s q r c ≤ register (first_s q r c) (suc r) (suc n) (suc k) = omega (arith, register_at (first_s q r c) (suc r) n k) in
+      subst (λ y. Rising 0 V (neg (choice q r c) ∷ neg (register (first_s q r c) (suc r) y (suc k)) ∷ [])) e (omega arith, omega arith, (omega arith, omega arith, tt))
 
-  fewerC-rising : (n k : ℕ) → n ≡ allNames q r c → k ≡ c → Rising 0 V (fewerC q r c k)
-  fewerC-rising n zero e f = (omega arith, omega arith, tt)
-  fewerC-rising zero (suc k) e f = absurd (omega arith)
-  fewerC-rising (suc n) (suc k) e f =
-      subst (λ y. Rising 0 V (lit (choice q r c) ∷ neg (register (firstT q r c) c (allNames q r c) y) ∷ [])) refl
+  fewer_c_rising : (n k : ℕ) → n ≡ all_names q r c → k ≡ c → Rising 0 V (fewer_c q r c k)
+  fewer_c_rising n zero e f = (omega arith, omega arith, tt)
+  fewer_c_rising zero (suc k) e f = absurd (omega arith)
+  fewer_c_rising (suc n) (suc k) e f =
+      subst (λ y. Rising 0 V (lit (choice q r c) ∷ neg (register (first_t q r c) c (all_names q r c) y) ∷ [])) refl
       (subst₂' e f)
     where
-      subst₂' : suc n ≡ allNames q r c → suc k ≡ c → Rising 0 V (lit (choice q r c) ∷ neg (register (firstT q r c) c (allNames q r c) (suc k)) ∷ [])
+      subst₂' : suc n ≡ all_names q r c → suc k ≡ c → Rising 0 V (lit (choice q r c) ∷ neg (register (first_t q r c) c (all_names q r c) (suc k)) ∷ [])
       subst₂' e f =
-          subst (λ y. Rising 0 V (lit (choice q r c) ∷ neg (register (firstT q r c) c y (suc k)) ∷ [])) e
-          (let v : register (firstT q r c) c (suc n) (suc k) ≤ V = within in
-          let z : firstT q r c ≤ register (firstT q r c) c (suc n) (suc k) = omega (arith, register_at (firstT q r c) c n k) in
+          subst (λ y. Rising 0 V (lit (choice q r c) ∷ neg (register (first_t q r c) c y (suc k)) ∷ [])) e
+          (let v : register (first_t q r c) c (suc n) (suc k) ≤ V = within in
+          let z : first_t q r c ≤ register (first_t q r c) c (suc n) (suc k) = omega (arith, register_at (first_t q r c) c n k) in
           (omega arith, omega arith, (omega arith, omega arith, tt)))
         where
-          within : register (firstT q r c) c (suc n) (suc k) ≤ V
-          within = subst (λ y. register (firstT q r c) y (suc n) (suc k) ≤ V) f (at_register (firstT q r c) k V (omega arith) (allNames q r c) n k (omega (arith, ap (λ y. allNames q r c * y) f)) (omega arith) (omega arith))
+          within : register (first_t q r c) c (suc n) (suc k) ≤ V
+          within = subst (λ y. register (first_t q r c) y (suc n) (suc k) ≤ V) f (at_register (first_t q r c) k V (omega arith) (all_names q r c) n k (omega (arith, ap (λ y. all_names q r c * y) f)) (omega arith) (omega arith))
 
-  opening-rising : Each (Rising 0 V) (opening q r c)
-  opening-rising =
-      each_append (Rising 0 V) (plan ++ rem ++ chg ++ cs ++ ct ++ top) (fewerR q r c r ∷ fewerC q r c c ∷ [])
+  opening_rising : Each (Rising 0 V) (opening q r c)
+  opening_rising =
+      each_append (Rising 0 V) (plan ++ rem ++ chg ++ cs ++ ct ++ top) (fewer_r q r c r ∷ fewer_c q r c c ∷ [])
       (each_append (Rising 0 V) (plan ++ rem ++ chg ++ cs ++ ct) top
       (each_append (Rising 0 V) (plan ++ rem ++ chg ++ cs) ct
       (each_append (Rising 0 V) (plan ++ rem ++ chg) cs
       (each_append (Rising 0 V) (plan ++ rem) chg
       (each_append (Rising 0 V) plan rem
-      (each_weaker (Rising 0 packs) (Rising 0 V) (λ d. rising_more 0 packs V d (omega arith)) plan (plan-rising q))
-      (removed-rising (firstRemoved q r c) (installed_names q) (omega arith) (omega arith)))
-      (changed-rising (firstChanged q r c) (names q) (omega arith) (omega arith)))
-      (counter_rising (firstS q r c) (suc r) V (inputs q r c) (up_from (firstRemoved q r c) (inputs q r c)) (omega arith) (omega arith) (omega (arith, length_up_from (firstRemoved q r c) (inputs q r c)))
-      (each_up_from (λ x. (1 ≤ x) × (x < firstS q r c)) (firstRemoved q r c) (inputs q r c) (λ j l u. (omega arith, omega arith)))))
-      (counter_rising (firstT q r c) c V (allNames q r c) (up_from (firstChanged q r c) (allNames q r c)) (omega arith) (omega arith) (omega (arith, length_up_from (firstChanged q r c) (allNames q r c)))
-      (each_up_from (λ x. (1 ≤ x) × (x < firstT q r c)) (firstChanged q r c) (allNames q r c) (λ j l u. (omega arith, omega arith)))))
-      (atMost-rising (inputs q r c) refl))
-      (fewerR-rising (inputs q r c) r refl refl, (fewerC-rising (allNames q r c) c refl refl, tt))
+      (each_weaker (Rising 0 packs) (Rising 0 V) (λ d. rising_more 0 packs V d (omega arith)) plan (plan_rising q))
+      (removed_rising (first_removed q r c) (installed_names q) (omega arith) (omega arith)))
+      (changed_rising (first_changed q r c) (names q) (omega arith) (omega arith)))
+      (counter_rising (first_s q r c) (suc r) V (inputs q r c) (up_from (first_removed q r c) (inputs q r c)) (omega arith) (omega arith) (omega (arith, length_up_from (first_removed q r c) (inputs q r c)))
+      (each_up_from (λ x. (1 ≤ x) × (x < first_s q r c)) (first_removed q r c) (inputs q r c) (λ j l u. (omega arith, omega arith)))))
+      (counter_rising (first_t q r c) c V (all_names q r c) (up_from (first_changed q r c) (all_names q r c)) (omega arith) (omega arith) (omega (arith, length_up_from (first_changed q r c) (all_names q r c)))
+      (each_up_from (λ x. (1 ≤ x) × (x < first_t q r c)) (first_changed q r c) (all_names q r c) (λ j l u. (omega arith, omega arith)))))
+      (at_most_rising (inputs q r c) refl))
+      (fewer_r_rising (inputs q r c) r refl refl, (fewer_c_rising (all_names q r c) c refl refl, tt))
     where
       plan : List Clause
       plan = plan_clauses q
 
       rem : List Clause
-      rem = removedClauses q r c (firstRemoved q r c) (installed_names q)
+      rem = removed_clauses q r c (first_removed q r c) (installed_names q)
 
       chg : List Clause
-      chg = changedClauses q r c (firstChanged q r c) (names q)
+      chg = changed_clauses q r c (first_changed q r c) (names q)
 
       cs : List Clause
-      cs = counter (firstS q r c) (suc r) 1 (up_from (firstRemoved q r c) (inputs q r c))
+      cs = counter (first_s q r c) (suc r) 1 (up_from (first_removed q r c) (inputs q r c))
 
       ct : List Clause
-      ct = counter (firstT q r c) c 1 (up_from (firstChanged q r c) (allNames q r c))
+      ct = counter (first_t q r c) c 1 (up_from (first_changed q r c) (all_names q r c))
 
       top : List Clause
-      top = atMostR q r c (inputs q r c)
+      top = at_most_r q r c (inputs q r c)
 
 pub opening_formed : (q : Problem) (a : Answer) → Formed q a
-opening_formed q fail = each_weaker (Rising 0 (length q.packages)) (λ d. T (well_formed (length q.packages) d)) (λ d. rising_formed 0 (length q.packages) d) (plan_clauses q) (plan-rising q)
+opening_formed q fail = each_weaker (Rising 0 (length q.packages)) (λ d. T (well_formed (length q.packages) d)) (λ d. rising_formed 0 (length q.packages) d) (plan_clauses q) (plan_rising q)
 opening_formed q (set s) =
-    each_weaker (Rising 0 (variables q r c)) (λ d. T (well_formed (variables q r c) d)) (λ d. rising_formed 0 (variables q r c) d) (opening q r c) (opening-rising q r c (removed_bound q s) (changed_bound q s))
+    each_weaker (Rising 0 (variables q r c)) (λ d. T (well_formed (variables q r c) d)) (λ d. rising_formed 0 (variables q r c) d) (opening q r c) (opening_rising q r c (removed_bound q s) (changed_bound q s))
   where
     r : ℕ
     r = removed_count q s

@@ -60,11 +60,11 @@ at_true A (pos v) t = yes-is (A v) t
     yes-is : (b : Bool) → T b → b ≡ true
     yes-is true t = refl
     yes-is false t = absurd t
-at_true A (negsuc k) t = no-is (A (suc k)) t
+at_true A (negsuc k) t = no_is (A (suc k)) t
   where
-    no-is : (b : Bool) → T (not b) → b ≡ false
-    no-is true t = absurd t
-    no-is false t = refl
+    no_is : (b : Bool) → T (not b) → b ≡ false
+    no_is true t = absurd t
+    no_is false t = refl
 
 at_false : (A : Chosen) (l : ℤ) → (T (is_true A l) → ⊥) → A (variable_of l) ≡ not (positive l)
 at_false A (pos v) t = yes-not (A v) t

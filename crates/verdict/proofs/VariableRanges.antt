@@ -3,7 +3,7 @@ use Rattle.std.proofs.Common.{◌≡◌, ℕ, zero, suc, ◌+◌, ◌-◌, ◌<�
 use Rattle.text.specs.Lists.{each, each_all, up_from}
 use Rattle.text.specs.Literals.{Clause}
 use Rattle.problem.specs.Feeding.{Fed, Left}
-use Rattle.problem.proofs.Feeds.{left-more, left-stop, left-all, fed-one}
+use Rattle.problem.proofs.Feeds.{left_more, left_stop, left_all, fed_one}
 
 pub range_more : (a n i : ℕ) → i < n → up_from (a + i) (n - i) ≡ (a + i) ∷ up_from (a + (i + 1)) (n - (i + 1))
 range_more a n i l =
@@ -19,26 +19,26 @@ module _ {S : Type 0} (goes stops : S → Clause → S → Type 0) where
   module _ (f : ℕ → Clause) (whole : List Clause) (start s t : S) (a n i : ℕ) (c : Clause) where
     pub range-took : i < n → Left goes stops whole start (each f (up_from (a + i) (n - i))) s → c ≡ f (a + i) → goes s c t → Left goes stops whole start (each f (up_from (a + (i + 1)) (n - (i + 1)))) t
     range-took l k e h =
-        left-more goes stops whole (f (a + i) ∷ []) (each f (up_from (a + (i + 1)) (n - (i + 1)))) start s t (subst (λ xs. Left goes stops whole start (each f xs) s) (range_more a n i l) k)
-        (fed-one goes stops _ c true s t (ap (λ y. y ∷ []) (sym e)) h)
+        left_more goes stops whole (f (a + i) ∷ []) (each f (up_from (a + (i + 1)) (n - (i + 1)))) start s t (subst (λ xs. Left goes stops whole start (each f xs) s) (range_more a n i l) k)
+        (fed_one goes stops _ c true s t (ap (λ y. y ∷ []) (sym e)) h)
 
     pub range-stopped : i < n → Left goes stops whole start (each f (up_from (a + i) (n - i))) s → c ≡ f (a + i) → stops s c t → Fed goes stops whole false start t
     range-stopped l k e h =
-        left-stop goes stops whole (f (a + i) ∷ []) (each f (up_from (a + (i + 1)) (n - (i + 1)))) start s t (subst (λ xs. Left goes stops whole start (each f xs) s) (range_more a n i l) k)
-        (fed-one goes stops _ c false s t (ap (λ y. y ∷ []) (sym e)) h)
+        left_stop goes stops whole (f (a + i) ∷ []) (each f (up_from (a + (i + 1)) (n - (i + 1)))) start s t (subst (λ xs. Left goes stops whole start (each f xs) s) (range_more a n i l) k)
+        (fed_one goes stops _ c false s t (ap (λ y. y ∷ []) (sym e)) h)
 
-  pub range-took-all : (f : ℕ → Clause) (whole : List Clause) (start s : S) (a n i : ℕ) → n ≤ i → Left goes stops whole start (each f (up_from (a + i) (n - i))) s → Fed goes stops whole true start s
-  range-took-all f whole start s a n i l k = left-all goes stops whole start s (subst (λ xs. Left goes stops whole start (each f xs) s) (range_all a n i l) k)
+  pub range_took_all : (f : ℕ → Clause) (whole : List Clause) (start s : S) (a n i : ℕ) → n ≤ i → Left goes stops whole start (each f (up_from (a + i) (n - i))) s → Fed goes stops whole true start s
+  range_took_all f whole start s a n i l k = left_all goes stops whole start s (subst (λ xs. Left goes stops whole start (each f xs) s) (range_all a n i l) k)
 
   -- the same where a number has any clauses
   module _ (f : ℕ → List Clause) (whole : List Clause) (start s t : S) (a n i k : ℕ) (e : k ≡ a + i) where
     pub range-fed : i < n → Left goes stops whole start (each_all f (up_from (a + i) (n - i))) s → Fed goes stops (f k) true s t → Left goes stops whole start (each_all f (up_from (a + (i + 1)) (n - (i + 1)))) t
     range-fed l j h =
-        left-more goes stops whole (f (a + i)) (each_all f (up_from (a + (i + 1)) (n - (i + 1)))) start s t (subst (λ xs. Left goes stops whole start (each_all f xs) s) (range_more a n i l) j) (subst (λ m. Fed goes stops (f m) true s t) e h)
+        left_more goes stops whole (f (a + i)) (each_all f (up_from (a + (i + 1)) (n - (i + 1)))) start s t (subst (λ xs. Left goes stops whole start (each_all f xs) s) (range_more a n i l) j) (subst (λ m. Fed goes stops (f m) true s t) e h)
 
     pub range-left : i < n → Left goes stops whole start (each_all f (up_from (a + i) (n - i))) s → Fed goes stops (f k) false s t → Fed goes stops whole false start t
     range-left l j h =
-        left-stop goes stops whole (f (a + i)) (each_all f (up_from (a + (i + 1)) (n - (i + 1)))) start s t (subst (λ xs. Left goes stops whole start (each_all f xs) s) (range_more a n i l) j) (subst (λ m. Fed goes stops (f m) false s t) e h)
+        left_stop goes stops whole (f (a + i)) (each_all f (up_from (a + (i + 1)) (n - (i + 1)))) start s t (subst (λ xs. Left goes stops whole start (each_all f xs) s) (range_more a n i l) j) (subst (λ m. Fed goes stops (f m) false s t) e h)
 
-  pub range-fed-all : (f : ℕ → List Clause) (whole : List Clause) (start s : S) (a n i : ℕ) → n ≤ i → Left goes stops whole start (each_all f (up_from (a + i) (n - i))) s → Fed goes stops whole true start s
-  range-fed-all f whole start s a n i l k = left-all goes stops whole start s (subst (λ xs. Left goes stops whole start (each_all f xs) s) (range_all a n i l) k)
+  pub range_fed_all : (f : ℕ → List Clause) (whole : List Clause) (start s : S) (a n i : ℕ) → n ≤ i → Left goes stops whole start (each_all f (up_from (a + i) (n - i))) s → Fed goes stops whole true start s
+  range_fed_all f whole start s a n i l k = left_all goes stops whole start s (subst (λ xs. Left goes stops whole start (each_all f xs) s) (range_all a n i l) k)

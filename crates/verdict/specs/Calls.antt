@@ -12,7 +12,7 @@ use Rattle.certificate.specs.Stream.{Step, add, Placed}
 use Rattle.certificate.specs.Reading.{Memory, Leaves}
 use Rattle.verdict.specs.Session.{Shown, DeadHint, Dead, Fine, Refused, after, is_empty_addition}
 use Rattle.verdict.specs.declared.reply.StepFault.{StepFault}
-use Rattle.verdict.specs.declared.reply.StepFault.TheVariants.{Form, NotShown, TooMany, Malformed as malformed, NotLive as notLive, NoRoom as noRoom, InTrial as inTrial}
+use Rattle.verdict.specs.declared.reply.StepFault.TheVariants.{Form, NotShown, TooMany, Malformed as malformed, NotLive as is_not_live, NoRoom as no_room, InTrial as in_trial}
 
 -- whether the clauses held show a clause, by these hints or by any chain: the base is as it was
 abbrev pub Tells : Meaning → Clause → Option (List ℕ) → Result Bool BaseFault → Meaning → Type 0
@@ -39,10 +39,10 @@ is_empty [] = true
 is_empty (l ∷ ls) = false
 
 abbrev pub SettleFault : Meaning → Clause → StepFault → Type 0
-SettleFault m c inTrial = (m.trial ≢ idle)
+SettleFault m c in_trial = (m.trial ≢ idle)
 SettleFault m c malformed = (m.trial ≡ idle) × T (not (well_formed m.variables c))
-SettleFault m c noRoom = (m.trial ≡ idle) × T (well_formed m.variables c) × T (not (fits m c))
-SettleFault m c notLive = ⊥
+SettleFault m c no_room = (m.trial ≡ idle) × T (well_formed m.variables c) × T (not (fits m c))
+SettleFault m c is_not_live = ⊥
 SettleFault m c Form = ⊥
 SettleFault m c NotShown = ⊥
 SettleFault m c TooMany = ⊥

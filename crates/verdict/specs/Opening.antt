@@ -1,10 +1,10 @@
 -- The variables and clauses that a session opens on.
 -- register: the register (i, j) of a counter, i and j from 1
 -- counter_input, counter: the clauses of a sequential counter: of one input, by its negative literal, and of all
--- firstRemoved, firstChanged, choice, firstS, firstT: where the removed and changed variables, the choice and the registers of the two counters begin
--- inputs, allNames: how many names were installed at the start, and how many there are
--- removedClauses, changedClauses: what makes a removed or a changed variable true
--- atMostR, fewerR, fewerC: at most r names are removed; fewer than r, or fewer than c are changed
+-- first_removed, first_changed, choice, first_s, first_t: where the removed and changed variables, the choice and the registers of the two counters begin
+-- inputs, all_names: how many names were installed at the start, and how many there are
+-- removed_clauses, changed_clauses: what makes a removed or a changed variable true
+-- at_most_r, fewer_r, fewer_c: at most r names are removed; fewer than r, or fewer than c are changed
 -- opening, variables: all clauses on a plan that removes r names and changes c, and how many variables they have
 use Rattle.std.specs.Prelude.{ℕ, zero, suc, ◌+◌, ◌-◌, ◌*◌, cond, List, [], ◌∷◌, ◌++◌, length, ℤ}
 use Rattle.text.specs.Lists.{up_from, each}
@@ -32,54 +32,54 @@ counter base K i (x ∷ xs) = counter_input base K (neg x) i ++ counter base K (
 
 -- all clauses of the opening on a plan with counts r and c, and V
 module _ (q : Problem) (r c : ℕ) where
-  abbrev pub firstRemoved : ℕ
-  firstRemoved = suc (length q.packages)
+  abbrev pub first_removed : ℕ
+  first_removed = suc (length q.packages)
 
   abbrev pub inputs : ℕ
   inputs = length (installed_names q)
 
-  abbrev pub allNames : ℕ
-  allNames = length (names q)
+  abbrev pub all_names : ℕ
+  all_names = length (names q)
 
-  abbrev pub firstChanged : ℕ
-  firstChanged = firstRemoved + inputs
+  abbrev pub first_changed : ℕ
+  first_changed = first_removed + inputs
 
   abbrev pub choice : ℕ
-  choice = firstChanged + allNames
+  choice = first_changed + all_names
 
-  abbrev pub firstS : ℕ
-  firstS = suc choice
+  abbrev pub first_s : ℕ
+  first_s = suc choice
 
-  abbrev pub firstT : ℕ
-  firstT = firstS + inputs * suc r
+  abbrev pub first_t : ℕ
+  first_t = first_s + inputs * suc r
 
   abbrev pub variables : ℕ
-  variables = choice + inputs * suc r + allNames * c
+  variables = choice + inputs * suc r + all_names * c
 
-  abbrev pub removedClauses : ℕ → List (List ℕ) → List Clause
-  removedClauses v [] = []
-  removedClauses v (n ∷ ns) = (each (λ i. lit i.number) (versions_of q n) ++ lit v ∷ []) ∷ removedClauses (suc v) ns
+  abbrev pub removed_clauses : ℕ → List (List ℕ) → List Clause
+  removed_clauses v [] = []
+  removed_clauses v (n ∷ ns) = (each (λ i. lit i.number) (versions_of q n) ++ lit v ∷ []) ∷ removed_clauses (suc v) ns
 
-  abbrev pub changedClauses : ℕ → List (List ℕ) → List Clause
-  changedClauses v [] = []
-  changedClauses v (n ∷ ns) = each (λ i. cond i.stanza.installed (lit i.number) (neg i.number) ∷ lit v ∷ []) (versions_of q n) ++ changedClauses (suc v) ns
+  abbrev pub changed_clauses : ℕ → List (List ℕ) → List Clause
+  changed_clauses v [] = []
+  changed_clauses v (n ∷ ns) = each (λ i. cond i.stanza.installed (lit i.number) (neg i.number) ∷ lit v ∷ []) (versions_of q n) ++ changed_clauses (suc v) ns
 
-  abbrev pub atMostR : ℕ → List Clause
-  atMostR zero = []
-  atMostR (suc n) = (neg (register firstS (suc r) (suc n) (suc r)) ∷ []) ∷ []
+  abbrev pub at_most_r : ℕ → List Clause
+  at_most_r zero = []
+  at_most_r (suc n) = (neg (register first_s (suc r) (suc n) (suc r)) ∷ []) ∷ []
 
-  abbrev pub fewerR : ℕ → Clause
-  fewerR zero = neg choice ∷ []
-  fewerR (suc k) = neg choice ∷ neg (register firstS (suc r) inputs (suc k)) ∷ []
+  abbrev pub fewer_r : ℕ → Clause
+  fewer_r zero = neg choice ∷ []
+  fewer_r (suc k) = neg choice ∷ neg (register first_s (suc r) inputs (suc k)) ∷ []
 
-  abbrev pub fewerC : ℕ → Clause
-  fewerC zero = lit choice ∷ []
-  fewerC (suc k) = lit choice ∷ neg (register firstT c allNames (suc k)) ∷ []
+  abbrev pub fewer_c : ℕ → Clause
+  fewer_c zero = lit choice ∷ []
+  fewer_c (suc k) = lit choice ∷ neg (register first_t c all_names (suc k)) ∷ []
 
   abbrev pub opening : List Clause
   opening = plan_clauses q
-      ++ removedClauses firstRemoved (installed_names q)
-      ++ changedClauses firstChanged (names q)
-      ++ counter firstS (suc r) 1 (up_from firstRemoved inputs)
-      ++ counter firstT c 1 (up_from firstChanged allNames)
-      ++ atMostR inputs ++ fewerR r ∷ fewerC c ∷ []
+      ++ removed_clauses first_removed (installed_names q)
+      ++ changed_clauses first_changed (names q)
+      ++ counter first_s (suc r) 1 (up_from first_removed inputs)
+      ++ counter first_t c 1 (up_from first_changed all_names)
+      ++ at_most_r inputs ++ fewer_r r ∷ fewer_c c ∷ []

@@ -3,7 +3,7 @@ ghost use Rattle.std.specs.Prelude.{◌≡◌, suc, ◌+◌, ◌*◌, ◌<◌, �
 ghost use Rattle.problem.specs.Feeding.{Fed};
 ghost use Rattle.problem.specs.Meaning.{problem_of};
 ghost use Rattle.problem.specs.Cudf.{names, installed_names};
-ghost use Rattle.verdict.specs.Opening.{variables, removedClauses, changedClauses, opening};
+ghost use Rattle.verdict.specs.Opening.{variables, removed_clauses, changed_clauses, opening};
 ghost use Rattle.verdict.specs.OpeningCalls.{Places, Small, second_base, counters_of, at_most, fewer, bounds_of};
 
 use crate::counter::feed_counter;
@@ -114,7 +114,7 @@ fn feed_names<S: ClauseSink>(
 ) -> bool
     requires removed { removed ≤ 10000 }
     requires changed { changed ≤ 10000 }
-    ensures { Fed goes stops (removedClauses (problem_of problem.now) 0 0 removed (installed_names (problem_of problem.now)) ++ changedClauses (problem_of problem.now) 0 0 changed (names (problem_of problem.now))) result sink.old sink.new }
+    ensures { Fed goes stops (removed_clauses (problem_of problem.now) 0 0 removed (installed_names (problem_of problem.now)) ++ changed_clauses (problem_of problem.now) 0 0 changed (names (problem_of problem.now))) result sink.old sink.new }
 {
     let mut memory = [0; 257];
     let mut clause = Rows::new(&mut memory, 0);

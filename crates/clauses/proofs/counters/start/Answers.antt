@@ -1,12 +1,12 @@
 use Rattle.std.proofs.Common.{arith}
-use Rattle.clauses.proofs.OneRow.{row-placed, row-short}
+use Rattle.clauses.proofs.OneRow.{row_placed, row_short}
 use Rattle.clauses.proofs.Tellings.{begun_more, begun_told}
 use Rattle.clauses.proofs.counters.start.Goals as goal
 
 pub count_open-requires : goal.count_open-requires
 count_open-requires c =
     let e = c.if-examine.ensures in
-    record { placed = row-placed c.args.store.now c.loop-k.k _ c.clause.ensures c.loop-k-test.true e.ready.sound _ e.ready.enough; short = row-short c.args.store.now c.loop-k.k _ c.clause.ensures c.loop-k-test.true e.ready.sound }
+    record { placed = row_placed c.args.store.now c.loop-k.k _ c.clause.ensures c.loop-k-test.true e.ready.sound _ e.ready.enough; short = row_short c.args.store.now c.loop-k.k _ c.clause.ensures c.loop-k-test.true e.ready.sound }
 
 pub loop-k-preserved : goal.loop-k-preserved
 loop-k-preserved c =

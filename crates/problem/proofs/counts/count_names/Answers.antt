@@ -1,7 +1,7 @@
 use Rattle.std.proofs.Common.{◌≡◌, ℕ, suc, ◌+◌, arith}
 use Rattle.problem.specs.Naming.{affected}
 use Rattle.problem.specs.Rows.{no_package}
-use Rattle.problem.proofs.Names.{names-step, names_none}
+use Rattle.problem.proofs.Names.{names_step, names_none}
 use Rattle.problem.proofs.counts.count_names.Goals as goal
 use Rattle.problem.proofs.counts.count_names.Goals.{then-is_counted, else-is_counted}
 
@@ -19,11 +19,11 @@ loop-place-preserved c =
     let t = affected c.args.text.now c.args.set.now c.args.packages.now c.args.effect in
     elim c.if-is_counted.branch [
       | then-is_counted w ↦ (
-        one_more c.loop-place.count _ _ _ _ w.count-is (names-step c.args.text.now t c.args.packages.now c.loop-place.place no_package c.loop-place-test.true _ w.if-is_counted.ensures) c.loop-place.invariant.0,
+        one_more c.loop-place.count _ _ _ _ w.count-is (names_step c.args.text.now t c.args.packages.now c.loop-place.place no_package c.loop-place-test.true _ w.if-is_counted.ensures) c.loop-place.invariant.0,
         omega (arith, w.count-is, c.loop-place.invariant.1),
       )
       | else-is_counted w ↦ (
-        no_more c.loop-place.count _ _ _ _ w.count-is (names-step c.args.text.now t c.args.packages.now c.loop-place.place no_package c.loop-place-test.true _ w.if-is_counted.ensures) c.loop-place.invariant.0,
+        no_more c.loop-place.count _ _ _ _ w.count-is (names_step c.args.text.now t c.args.packages.now c.loop-place.place no_package c.loop-place-test.true _ w.if-is_counted.ensures) c.loop-place.invariant.0,
         omega (arith, w.count-is, c.loop-place.invariant.1),
       )
     ]

@@ -8,7 +8,7 @@ use Rattle.problem.specs.Drafts.{draft_at, extended_by, DraftOk}
 use Rattle.problem.specs.Growth.{ok_mapped, SpanOf}
 use Rattle.problem.specs.Heads.{HeadOk}
 use Rattle.problem.specs.Keys.{package_key}
-use Rattle.problem.proofs.Drafting.{with-depends-is, with-conflicts-is, head_version_is, head_installed_is, made_mapped, depends_good, conflicts_good, head_good}
+use Rattle.problem.proofs.Drafting.{with_depends_is, with_conflicts_is, head_version_is, head_installed_is, made_mapped, depends_good, conflicts_good, head_good}
 use Rattle.problem.proofs.Growing.{grown_none}
 use Rattle.problem.proofs.draft.extend.Goals as goal
 
@@ -44,7 +44,7 @@ returns-in-Some-Depends c =
     let e : Some Depends ≡ package_key c.bytes_of.result.now = search rules in
     let k = e ∙ ap package_key c.bytes_of.ensures in
     record {
-      draft = ap (ok_mapped (draft_at text ds)) c.with_depends.ensures ∙ with-depends-is text cs ds c.read_depends.ensures.grown.front c.args.draft (limit_of c.args.out.now) c.args.number (word_in text c.args.property.value) c.read_depends.result c.requires.good c.read_depends.ensures.list ∙ ap (extended_by (limit_of c.args.out.now) c.args.number (draft_at text cs c.args.draft) (word_in text c.args.property.value)) k;
+      draft = ap (ok_mapped (draft_at text ds)) c.with_depends.ensures ∙ with_depends_is text cs ds c.read_depends.ensures.grown.front c.args.draft (limit_of c.args.out.now) c.args.number (word_in text c.args.property.value) c.read_depends.result c.requires.good c.read_depends.ensures.list ∙ ap (extended_by (limit_of c.args.out.now) c.args.number (draft_at text cs c.args.draft) (word_in text c.args.property.value)) k;
       good = subst (λ x. IfOk x (DraftOk (length text) (length ds))) (sym c.with_depends.ensures) (made_mapped (SpanOf c.args.out.now c.read_depends.new.out) (DraftOk (length text) (length ds)) _ c.read_depends.result (λ s i. depends_good text c.args.out.now c.read_depends.new.out c.args.draft s c.requires.good c.read_depends.ensures.grown i) c.read_depends.ensures.span);
       grown = c.read_depends.ensures.grown;
     }
@@ -57,7 +57,7 @@ returns-in-Some-Conflicts c =
     let e : Some Conflicts ≡ package_key c.bytes_of.result.now = search rules in
     let k = e ∙ ap package_key c.bytes_of.ensures in
     record {
-      draft = ap (ok_mapped (draft_at text ds)) c.with_conflicts.ensures ∙ with-conflicts-is text cs ds c.read_list.ensures.grown.front c.args.draft (limit_of c.args.out.now) c.args.number (word_in text c.args.property.value) c.read_list.result c.requires.good c.read_list.ensures.list ∙ ap (extended_by (limit_of c.args.out.now) c.args.number (draft_at text cs c.args.draft) (word_in text c.args.property.value)) k;
+      draft = ap (ok_mapped (draft_at text ds)) c.with_conflicts.ensures ∙ with_conflicts_is text cs ds c.read_list.ensures.grown.front c.args.draft (limit_of c.args.out.now) c.args.number (word_in text c.args.property.value) c.read_list.result c.requires.good c.read_list.ensures.list ∙ ap (extended_by (limit_of c.args.out.now) c.args.number (draft_at text cs c.args.draft) (word_in text c.args.property.value)) k;
       good = subst (λ x. IfOk x (DraftOk (length text) (length ds))) (sym c.with_conflicts.ensures) (made_mapped (SpanOf c.args.out.now c.read_list.new.out) (DraftOk (length text) (length ds)) _ c.read_list.result (λ s i. conflicts_good text c.args.out.now c.read_list.new.out c.args.draft s c.requires.good c.read_list.ensures.grown i) c.read_list.ensures.span);
       grown = c.read_list.ensures.grown;
     }

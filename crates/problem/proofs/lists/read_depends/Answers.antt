@@ -4,7 +4,7 @@ use Rattle.text.specs.Word.{word_in}
 use Rattle.problem.specs.Growth.{SpanOf, ok_mapped, list_at, conjuncts_at, settled}
 use Rattle.problem.proofs.Growing.{grown_none, front_short}
 use Rattle.problem.proofs.Drafting.{once_some, once_none}
-use Rattle.problem.proofs.Listing.{conjuncts_read, conjuncts-empty, span_settled, span-empty}
+use Rattle.problem.proofs.Listing.{conjuncts_read, conjuncts_empty, span_settled, span_empty}
 use Rattle.problem.proofs.lists.read_depends.Goals as goal
 
 pub returns-then-is_some : goal.returns-then-is_some
@@ -14,8 +14,8 @@ pub returns-then-is_empty : goal.returns-then-is_empty
 returns-then-is_empty c =
     let e = sym (ap (λ t. eqb (length t) 0) c.bytes_of.ensures) ∙ sym c.is_empty.ensures ∙ c.if-is_empty.true in
     record {
-      list = once_none c.args.number c.args.already (search rules) (conjuncts-empty c.args.text.now (word_in c.args.text.now c.args.value) c.args.out.now c.len-first.result c.args.number e c.requires);
-      span = span-empty c.args.text.now c.args.text.now c.args.out.now c.len-first.result 0 c.len-first.ensures;
+      list = once_none c.args.number c.args.already (search rules) (conjuncts_empty c.args.text.now (word_in c.args.text.now c.args.value) c.args.out.now c.len-first.result c.args.number e c.requires);
+      span = span_empty c.args.text.now c.args.text.now c.args.out.now c.len-first.result 0 c.len-first.ensures;
       grown = grown_none c.args.text.now c.args.out.now;
     }
 

@@ -3,7 +3,7 @@ use Rattle.text.specs.Lists.{each}
 use Rattle.text.specs.Literals.{lit}
 use Rattle.problem.specs.Rows.{no_constraint}
 use Rattle.problem.specs.Stanzas.{row_satisfies_one, passing}
-use Rattle.problem.proofs.Feeds.{walk_more, walk-stop, walk-all}
+use Rattle.problem.proofs.Feeds.{walk_more, walk-stop, walk_all}
 use Rattle.problem.proofs.plan_clauses.feed_installs.Goals as goal
 
 pub returns-then-not-feed_install : goal.returns-then-not-feed_install
@@ -22,6 +22,6 @@ loop-item-preserved g c = (
 
 pub returns : goal.returns
 returns g c = record {
-  fed = walk-all _ _ (λ i. each lit (passing (row_satisfies_one c.args.text.now (i ∷ [])) 0 c.args.packages.now) ∷ []) _ _ c.loop-item.sink c.args.items.now c.loop-item.item-index c.loop-item-test.false c.loop-item.invariant.0;
+  fed = walk_all _ _ (λ i. each lit (passing (row_satisfies_one c.args.text.now (i ∷ [])) 0 c.args.packages.now) ∷ []) _ _ c.loop-item.sink c.args.items.now c.loop-item.item-index c.loop-item-test.false c.loop-item.invariant.0;
   room = c.loop-item.invariant.1;
 }

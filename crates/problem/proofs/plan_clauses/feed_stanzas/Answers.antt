@@ -1,5 +1,5 @@
 use Rattle.std.proofs.Common.{◌∙◌, arith}
-use Rattle.problem.proofs.Meets.{place_within, stanzas-more, stanzas-stop, stanzas-all}
+use Rattle.problem.proofs.Meets.{place_within, stanzas-more, stanzas-stop, stanzas_all}
 use Rattle.problem.proofs.plan_clauses.feed_stanzas.Goals as goal
 
 pub feed_stanza-requires : goal.feed_stanza-requires
@@ -22,6 +22,6 @@ loop-place-preserved g c = (
 
 pub returns : goal.returns
 returns g c = record {
-  fed = stanzas-all _ _ c.args.problem.now _ _ _ c.loop-place.sink c.loop-place.place _ c.len-count.ensures c.loop-place-test.false c.loop-place.invariant.0;
+  fed = stanzas_all _ _ c.args.problem.now _ _ _ c.loop-place.sink c.loop-place.place _ c.len-count.ensures c.loop-place-test.false c.loop-place.invariant.0;
   room = c.loop-place.invariant.1;
 }

@@ -1,20 +1,20 @@
 use Rattle.std.proofs.Common.{◌+◌, ◌*◌, arith, w32, SFits, rules}
 use Rattle.text.specs.Literals.{lit, neg}
-use Rattle.verdict.proofs.Counting.{row_more, row-holds, two_held, fed-input, fed-keeping}
+use Rattle.verdict.proofs.Counting.{row_more, row_holds, two_held, fed_input, fed_keeping}
 use Rattle.verdict.proofs.counter.feed_input.Goals as goal
 
 pub overflow-sub-before : goal.overflow-sub-before
-overflow-sub-before g c = omega (arith, row-holds c.args.base c.args.limit c.args.place c.if-place-eq0.false)
+overflow-sub-before g c = omega (arith, row_holds c.args.base c.args.limit c.args.place c.if-place-eq0.false)
 
 pub feed-kept-requires : goal.feed-kept-requires
 feed-kept-requires g c =
-    let h = row-holds c.args.base c.args.limit c.args.place c.if-place-eq0.false in
+    let h = row_holds c.args.base c.args.limit c.args.place c.if-place-eq0.false in
     let m = row_more c.args.base c.args.limit c.args.place in
     record { before = omega (arith, h, m); order = omega (arith, h, m); few = omega (arith, h, m) }
 
 pub feed-raised-requires : goal.feed-raised-requires
 feed-raised-requires g c =
-    let h = row-holds c.args.base c.args.limit c.args.place c.if-place-eq0.false in
+    let h = row_holds c.args.base c.args.limit c.args.place c.if-place-eq0.false in
     let m = row_more c.args.base c.args.limit c.args.place in
     record { input = c.requires.input; small = c.requires.small; before = omega (arith, h, m); order = omega (arith, h, m); few = omega (arith, h, m) }
 
@@ -23,11 +23,11 @@ returns-then-feed-kept g c =
     let x : SFits w32 c.no.result = search rules in
     let y : SFits w32 c.yes.result = search rules in
     let e = two_held _ _ (neg c.args.input) (lit (c.args.base + c.args.place * c.args.limit)) x y c.no.ensures c.yes.ensures in
-    fed-input _ _ c.args.base c.args.limit c.args.place (neg c.args.input) c.if-limit-eq0.false c.if-place-eq0.false _ e _ _ _ _ _ c.if-not-take.ensures c.if-feed-kept.ensures c.feed-raised.ensures
+    fed_input _ _ c.args.base c.args.limit c.args.place (neg c.args.input) c.if-limit-eq0.false c.if-place-eq0.false _ e _ _ _ _ _ c.if-not-take.ensures c.if-feed-kept.ensures c.feed-raised.ensures
 
 pub returns-else-feed-kept : goal.returns-else-feed-kept
 returns-else-feed-kept g c =
     let x : SFits w32 c.no.result = search rules in
     let y : SFits w32 c.yes.result = search rules in
     let e = two_held _ _ (neg c.args.input) (lit (c.args.base + c.args.place * c.args.limit)) x y c.no.ensures c.yes.ensures in
-    fed-keeping _ _ c.args.base c.args.limit c.args.place (neg c.args.input) c.if-limit-eq0.false c.if-place-eq0.false _ e _ _ _ _ c.if-feed-kept.false c.if-not-take.ensures c.feed-kept.ensures
+    fed_keeping _ _ c.args.base c.args.limit c.args.place (neg c.args.input) c.if-limit-eq0.false c.if-place-eq0.false _ e _ _ _ _ c.if-feed-kept.false c.if-not-take.ensures c.feed-kept.ensures

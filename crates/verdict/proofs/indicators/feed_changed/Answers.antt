@@ -1,6 +1,6 @@
 use Rattle.std.proofs.Common.{sym, ap, ◌∙◌}
 use Rattle.std.specs.Str.{bytes_eq}
-use Rattle.verdict.proofs.Changing.{changed-more, changed-stop, changed-same, changed-all}
+use Rattle.verdict.proofs.Changing.{changed-more, changed-stop, changed-same, changed_all}
 use Rattle.verdict.proofs.indicators.feed_changed.Goals as goal
 use Rattle.verdict.proofs.indicators.feed_changed.Goals.{else-same-bytes-via-then-same-bytes+else-not-feed-change, else-same-bytes-via-else-same-bytes}
 
@@ -21,4 +21,4 @@ loop-i-preserved g c =
     ]
 
 pub returns : goal.returns
-returns g c = changed-all _ _ c.args.text.now c.args.name.now c.args.variable c.args.packages.now c.loop-i.i _ _ c.loop-i.sink c.loop-i-test.false c.loop-i.invariant
+returns g c = changed_all _ _ c.args.text.now c.args.name.now c.args.variable c.args.packages.now c.loop-i.i _ _ c.loop-i.sink c.loop-i-test.false c.loop-i.invariant

@@ -1,6 +1,6 @@
 use Rattle.std.proofs.Common.{ap, ◌∙◌, arith}
 use Rattle.text.specs.Rows.{room}
-use Rattle.verdict.proofs.Changing.{names-stop, names_more, names_same, names-all}
+use Rattle.verdict.proofs.Changing.{names-stop, names_more, names_same, names_all}
 use Rattle.verdict.proofs.indicators.feed_indicators.Goals as goal
 use Rattle.verdict.proofs.indicators.feed_indicators.Goals.{then-is-listed+else-not-feed-indicator, else-is-listed}
 
@@ -27,6 +27,6 @@ loop-place-preserved g c =
 
 pub returns : goal.returns
 returns g c = record {
-  fed = names-all _ _ c.args.indicator c.args.text.now c.args.packages.now c.loop-place.variable c.loop-place.place _ _ _ c.loop-place.invariant.0 c.loop-place-test.false;
+  fed = names_all _ _ c.args.indicator c.args.text.now c.args.packages.now c.loop-place.variable c.loop-place.place _ _ _ c.loop-place.invariant.0 c.loop-place-test.false;
   room = c.loop-place.invariant.2;
 }

@@ -1,10 +1,10 @@
 use Rattle.std.proofs.Common.{arith}
-use Rattle.problem.proofs.Feeds.{fed-on-as, fed-stop-as}
+use Rattle.problem.proofs.Feeds.{fed_on_as, fed_stop_as}
 use Rattle.verdict.proofs.OpeningParts.{product_few, first_is, second_is}
 use Rattle.verdict.proofs.opening_clauses.feed_counters.Goals as goal
 
 pub returns-then-not-feed-counter : goal.returns-then-not-feed-counter
-returns-then-not-feed-counter g c = fed-stop-as _ _ _ _ _ _ _ (first_is c.args.places c.args.removed) c.if-not-feed-counter.ensures
+returns-then-not-feed-counter g c = fed_stop_as _ _ _ _ _ _ _ (first_is c.args.places c.args.removed) c.if-not-feed-counter.ensures
 
 pub feed-counter-requires-2 : goal.feed-counter-requires-2
 feed-counter-requires-2 g c =
@@ -13,4 +13,4 @@ feed-counter-requires-2 g c =
 
 pub returns : goal.returns
 returns g c =
-    fed-on-as _ _ _ _ _ _ _ _ _ _ (first_is c.args.places c.args.removed) (second_is c.args.places c.args.removed c.args.changed _ c.registers.ensures.count) c.if-not-feed-counter.ensures c.feed-counter-2.ensures
+    fed_on_as _ _ _ _ _ _ _ _ _ _ (first_is c.args.places c.args.removed) (second_is c.args.places c.args.removed c.args.changed _ c.registers.ensures.count) c.if-not-feed-counter.ensures c.feed-counter-2.ensures

@@ -2,7 +2,7 @@ use Rattle.std.proofs.Common.{Err, refl}
 use Rattle.verdict.specs.declared.outcome.RunFault.TheVariants.{Opening}
 use Rattle.certificate.specs.Reading.{memory_of}
 use Rattle.verdict.proofs.Asking.{same_memory}
-use Rattle.verdict.proofs.Finding.{finds, find-leaves, found-true, found}
+use Rattle.verdict.proofs.Finding.{finds, find_leaves, found_true, found}
 use Rattle.verdict.proofs.whole.conclude.Goals as goal
 
 pub returns : goal.returns
@@ -18,10 +18,10 @@ returns g c =
     let w = finds q a k (memory_of c.open.new.literals c.args.hints.now) m (g.B.ClauseBase.meaning c.open.new.base) m' s s' c.in-Ok.session c.ask-on-reply.new.session c.in-Ok.ensures.opens
     (same_memory c.open.new.literals c.args.literals.now c.args.hints.now c.args.hints.now c.open.auto.literals refl) c.ask-on-reply.ensures.claim c.ask-on-reply.result v c.ask-on-reply.ensures.onward c.end.ensures in
     record {
-      memory = find-leaves c.args.literals.now c.open.new.literals c.ask-on-reply.new.literals c.args.hints.now c.ask-on-reply.new.hints c.open.auto.literals
+      memory = find_leaves c.args.literals.now c.open.new.literals c.ask-on-reply.new.literals c.args.hints.now c.ask-on-reply.new.hints c.open.auto.literals
           c.ask-on-reply.ensures.literals c.ask-on-reply.ensures.hints c.ask-on-reply.new.session c.ask-on-reply.result v c.end.ensures;
       run = w;
-      sound = found-true q a k m m' s s' v w;
+      sound = found_true q a k m m' s s' v w;
       complete = found q a k m m' s s' v w;
     }
 

@@ -2,7 +2,7 @@ use Rattle.std.proofs.Common.{◌≡◌, ◌<◌, length, Ok, Err, subst, arith}
 use Rattle.std.proofs.lemmas.Result.{err_from_is_err_and}
 use Rattle.verdict.specs.Session.{opening_clauses}
 use Rattle.clauses.specs.Calls.{Clears, Adds}
-use Rattle.verdict.proofs.Laying.{Laid, laid_next, lays-ok, lays-fault}
+use Rattle.verdict.proofs.Laying.{Laid, laid_next, lays_ok, lays_fault}
 use Rattle.verdict.proofs.Rising.{opening_formed}
 use Rattle.verdict.proofs.whole.lay.Goals as goal
 
@@ -16,7 +16,7 @@ returns-in-err-add g c =
     let m'' = g.B.ClauseBase.meaning c.add.new.self in
     let f = c.in-err-add.field-0.0 in
     let below : c.loop-i.i < length (opening_clauses q a) = omega arith in
-    let w = lays-fault m q a m₁ mᵢ m'' c.loop-i.i f
+    let w = lays_fault m q a m₁ mᵢ m'' c.loop-i.i f
     (subst (λ y. Clears m y (Ok tt) m₁) c.variables.ensures c.in-ok-clear.ensures) below c.loop-i.invariant (opening_formed q a)
     (subst (λ y. Adds mᵢ y (Err f) m'') c.clause-n.ensures.is c.in-err-add.ensures) in
     let p = err_from_is_err_and c.from-residual-in-err-add.result c.from-residual-in-err-add.ensures.1 in
@@ -40,4 +40,4 @@ returns g c =
     let m₁ = g.B.ClauseBase.meaning c.clear.new.self in
     let m' = g.B.ClauseBase.meaning c.loop-i.base in
     let e : c.loop-i.i ≡ length (opening_clauses q a) = omega arith in
-    lays-ok m q a m₁ m' (subst (λ y. Clears m y (Ok tt) m₁) c.variables.ensures c.in-ok-clear.ensures) (subst (λ y. Laid m₁ (opening_clauses q a) y m') e c.loop-i.invariant)
+    lays_ok m q a m₁ m' (subst (λ y. Clears m y (Ok tt) m₁) c.variables.ensures c.in-ok-clear.ensures) (subst (λ y. Laid m₁ (opening_clauses q a) y m') e c.loop-i.invariant)

@@ -2,7 +2,7 @@ use Rattle.std.proofs.Common.{[], length, pos, Ok, Err, refl}
 use Rattle.verdict.specs.declared.outcome.SessionFault.TheVariants.{Opening, Unclosed}
 use Rattle.certificate.specs.Reading.{memory_of, standing}
 use Rattle.verdict.proofs.Asking.{same_memory, leaves_from}
-use Rattle.verdict.proofs.Concluding.{concludes-verdict, concludes-unclosed, verdict-true, complete}
+use Rattle.verdict.proofs.Concluding.{concludes-verdict, concludes-unclosed, verdict_true, complete}
 use Rattle.verdict.proofs.whole.run_session.Goals as goal
 
 pub returns-in-Ok-close : goal.returns-in-Ok-close
@@ -23,7 +23,7 @@ returns-in-Ok-close g c =
       run = w;
       memory = leaves_from k (memory_of c.open.new.literals c.args.hints.now) s.steps (length rs) c.open.new.literals (standing (pos 0) (length c.args.literals.now) []) c.args.hints.now c.ask-all.new.literals c.ask-all.new.hints
           (same_memory c.open.new.literals c.args.literals.now c.args.hints.now c.args.hints.now c.open.auto.literals refl) c.in-Ok.ensures.memory c.ask-all.ensures.memory;
-      sound = verdict-true q a k m m' s s' rs rs' (Ok c.verdict.result) w;
+      sound = verdict_true q a k m m' s s' rs rs' (Ok c.verdict.result) w;
       complete = complete q a k m m' s s' rs rs' (length rs) c.ask-all.auto.replies (Ok c.verdict.result) w;
     }
 

@@ -1,7 +1,7 @@
 use Rattle.std.proofs.Common.{refl}
 use Rattle.clauses.specs.Common.{Steady}
 use Rattle.clauses.specs.declared.phase.Phase.TheVariants.{Answered}
-use Rattle.clauses.proofs.Commons.{sane_store, said-unit, said-conflict, said-useless}
+use Rattle.clauses.proofs.Commons.{sane_store, said_unit, said_conflict, said_useless}
 use Rattle.clauses.proofs.common.Common.hint.Goals as goal
 
 pub returns-in-Unit : goal.returns-in-Unit
@@ -11,7 +11,7 @@ returns-in-Unit c =
     let e = c.in-Unit.ensures in
     let s : Steady a (record { store = a.store; values = c.follow.new.values; trail = a.trail; phase = a.phase }) = record { rows = refl; literals = refl; cells = e.cells; trail = refl } in
     let p = c.is_open.ensures.0 c.if-not-is_open.false in
-    record { call = said-unit a _ c.args.number c.in-Some.k c.requires p f.0 f.1 f.2 refl s p e.says; sane = sane_store a _ c.requires s c.requires.sound refl; steady = s }
+    record { call = said_unit a _ c.args.number c.in-Some.k c.requires p f.0 f.1 f.2 refl s p e.says; sane = sane_store a _ c.requires s c.requires.sound refl; steady = s }
 
 pub returns-in-Conflict : goal.returns-in-Conflict
 returns-in-Conflict c =
@@ -20,7 +20,7 @@ returns-in-Conflict c =
     let e = c.in-Conflict.ensures in
     let s : Steady a (record { store = a.store; values = c.follow.new.values; trail = a.trail; phase = Answered }) = record { rows = refl; literals = refl; cells = e.cells; trail = refl } in
     let p = c.is_open.ensures.0 c.if-not-is_open.false in
-    record { call = said-conflict a _ c.args.number c.in-Some.k c.requires p f.0 f.1 f.2 refl s refl e.says; sane = sane_store a _ c.requires s c.requires.sound refl; steady = s }
+    record { call = said_conflict a _ c.args.number c.in-Some.k c.requires p f.0 f.1 f.2 refl s refl e.says; sane = sane_store a _ c.requires s c.requires.sound refl; steady = s }
 
 pub returns-in-Useless : goal.returns-in-Useless
 returns-in-Useless c =
@@ -29,4 +29,4 @@ returns-in-Useless c =
     let e = c.in-Useless.ensures in
     let s : Steady a (record { store = a.store; values = c.follow.new.values; trail = a.trail; phase = a.phase }) = record { rows = refl; literals = refl; cells = e.cells; trail = refl } in
     let p = c.is_open.ensures.0 c.if-not-is_open.false in
-    record { call = said-useless a _ c.args.number c.in-Some.k c.requires p f.0 f.1 f.2 refl s p e.says; sane = sane_store a _ c.requires s c.requires.sound refl; steady = s }
+    record { call = said_useless a _ c.args.number c.in-Some.k c.requires p f.0 f.1 f.2 refl s p e.says; sane = sane_store a _ c.requires s c.requires.sound refl; steady = s }

@@ -1,13 +1,13 @@
 use Rattle.std.proofs.Common.{◌≡◌, ◌+◌, ◌-◌, length, take, drop, sym, refl, ap, ◌∙◌, arith}
 use Rattle.std.proofs.lemmas.List.{take_rest, length-take, length-drop, length_push}
 use Rattle.problem.specs.Rows.{no_package}
-use Rattle.problem.proofs.Feeds.{fed-none, fed-one}
+use Rattle.problem.proofs.Feeds.{fed_none, fed_one}
 use Rattle.problem.proofs.Passing.{needs-none, needs-written}
 use Rattle.problem.proofs.plan_clauses.conjuncts.feed_conjunct.Goals as goal
 
 pub returns-then-satisfies_one : goal.returns-then-satisfies_one
 returns-then-satisfies_one g c = record {
-  fed = fed-none _ _ _ _ (needs-none _ c.args.packages.now c.args.place no_package c.requires.place (sym c.if-satisfies_one.ensures));
+  fed = fed_none _ _ _ _ (needs-none _ c.args.packages.now c.args.place no_package c.requires.place (sym c.if-satisfies_one.ensures));
   room = refl;
 }
 
@@ -35,7 +35,7 @@ write_met-requires-2 g c =
 pub returns : goal.returns
 returns g c = record {
   fed = let same : c.args.place - 0 ≡ c.args.place = omega arith in
-      fed-one _ _ _ _ _ _ _
+      fed_one _ _ _ _ _ _ _
       (needs-written _ c.args.packages.now c.args.place no_package c.requires.place _ _ _ _ _ _ (sym c.if-satisfies_one.ensures) (ap (λ n. take n c.args.packages.now) same) (take_rest c.args.packages.now (c.args.place + 1))
       c.clear.ensures.items c.write_met.ensures.items c.write_out.ensures.items (c.as_slice.ensures ∙ c.write_met-2.ensures.items))
       c.take.ensures;

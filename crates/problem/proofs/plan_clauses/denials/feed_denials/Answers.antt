@@ -1,7 +1,7 @@
 use Rattle.std.proofs.Common.{sym, ap, ◌∙◌}
 use Rattle.text.specs.Rows.{room}
 use Rattle.problem.specs.Rows.{no_package}
-use Rattle.problem.proofs.Denials.{denials-more, denials-stop, denials-same, denials-all}
+use Rattle.problem.proofs.Denials.{denials-more, denials-stop, denials-same, denials_all}
 use Rattle.problem.proofs.plan_clauses.denials.feed_denials.Goals as goal
 use Rattle.problem.proofs.plan_clauses.denials.feed_denials.Goals.{else-satisfies-via-then-satisfies+else-not-feed_denial, else-satisfies-via-else-satisfies}
 
@@ -27,6 +27,6 @@ loop-i-preserved g c =
 
 pub returns : goal.returns
 returns g c = record {
-  fed = denials-all _ _ c.args.beside _ _ _ _ c.loop-i.sink c.args.packages.now c.loop-i.i c.loop-i-test.false c.loop-i.invariant.0;
+  fed = denials_all _ _ c.args.beside _ _ _ _ c.loop-i.sink c.args.packages.now c.loop-i.i c.loop-i-test.false c.loop-i.invariant.0;
   room = c.loop-i.invariant.1;
 }

@@ -1,6 +1,6 @@
 use Rattle.std.proofs.Common.{◌∙◌}
 use Rattle.problem.specs.Rows.{no_constraint}
-use Rattle.problem.proofs.Feeds.{walk_more, walk-stop, walk-all}
+use Rattle.problem.proofs.Feeds.{walk_more, walk-stop, walk_all}
 use Rattle.problem.proofs.plan_clauses.denials.feed_denied.Goals as goal
 
 pub returns-then-not-feed_denials : goal.returns-then-not-feed_denials
@@ -17,6 +17,6 @@ loop-constraint-preserved g c = (
 
 pub returns : goal.returns
 returns g c = record {
-  fed = walk-all _ _ _ _ _ _ c.args.constraints.now c.loop-constraint.constraint-index c.loop-constraint-test.false c.loop-constraint.invariant.0;
+  fed = walk_all _ _ _ _ _ _ c.args.constraints.now c.loop-constraint.constraint-index c.loop-constraint-test.false c.loop-constraint.invariant.0;
   room = c.loop-constraint.invariant.1;
 }
