@@ -38,6 +38,7 @@ ALIASES = {
     "inTrial": "in_trial",
     "noRoom": "no_room",
     "notLive": "is_not_live",
+    "notX": "not_x",
     "openInTrial": "open_in_trial",
     "openNoRoom": "open_no_room",
     "operatorOf": "operator_of",

@@ -18,13 +18,13 @@ register base K i j = base + (i - 1) * K + (j - 1)
 
 -- the i-th input of a counter up to K, by its negated literal
 abbrev pub counter_input : ℕ → ℕ → ℤ → ℕ → List Clause
-counter_input base zero notX i = []
-counter_input base (suc k) notX zero = []
-counter_input base (suc k) notX (suc zero) = (notX ∷ lit (register base (suc k) 1 1) ∷ []) ∷ []
-counter_input base (suc k) notX (suc (suc i)) =
-    ((notX ∷ lit (register base (suc k) (suc (suc i)) 1) ∷ []) ∷ [])
+counter_input base zero not_x i = []
+counter_input base (suc k) not_x zero = []
+counter_input base (suc k) not_x (suc zero) = (not_x ∷ lit (register base (suc k) 1 1) ∷ []) ∷ []
+counter_input base (suc k) not_x (suc (suc i)) =
+    ((not_x ∷ lit (register base (suc k) (suc (suc i)) 1) ∷ []) ∷ [])
     ++ each (λ j. neg (register base (suc k) (suc i) j) ∷ lit (register base (suc k) (suc (suc i)) j) ∷ []) (up_from 1 (suc k))
-    ++ each (λ j. notX ∷ neg (register base (suc k) (suc i) j) ∷ lit (register base (suc k) (suc (suc i)) (suc j)) ∷ []) (up_from 1 k)
+    ++ each (λ j. not_x ∷ neg (register base (suc k) (suc i) j) ∷ lit (register base (suc k) (suc (suc i)) (suc j)) ∷ []) (up_from 1 k)
 
 abbrev pub counter : ℕ → ℕ → ℕ → List ℕ → List Clause
 counter base K i [] = []
