@@ -1,13 +1,13 @@
 -- A whole run up to the first refusal, by the law.
-use Rattle.std.proofs.Common.{◌≡◌, ℕ, zero, suc, Bool, true, false, cond, not, T, List, [], ◌∷◌, length, replicate, ℤ, pos, Ok, Err, Result, sym, refl, ap, ◌∙◌, subst}
+use Rattle.std.proofs.Common.{◌≡◌, ℕ, zero, suc, Bool, true, false, cond, T, List, [], ◌∷◌, length, replicate, ℤ, pos, Ok, Err, Result, sym, refl, ap, ◌∙◌, subst}
 use Rattle.problem.specs.Cudf.{Problem}
 use Rattle.clauses.specs.ClauseBase.{Meaning}
 use Rattle.certificate.specs.Reading.{Memory}
 use Rattle.certificate.specs.Stream.{Placed, Ending, finished, broken, Stream}
 use Rattle.verdict.specs.Finding.{Asked as WasAsked, Closed, Ends, Finds, FindLeaves, FoundTrue, Found}
-use Rattle.verdict.specs.Law.{Means, verdict_of}
+use Rattle.verdict.specs.Law.{Means}
 use Rattle.verdict.specs.Onward.{Stops, OnAfter, Onward}
-use Rattle.verdict.specs.Opened.{desk_of, Opens, verdict_for, claim_of}
+use Rattle.verdict.specs.Opened.{desk_of, Opens, verdict_for}
 use Rattle.verdict.specs.Session.{Desk, AskedOf, Asked, Answer, opens, desk_on}
 use Rattle.verdict.specs.declared.outcome.RunFault.{RunFault}
 use Rattle.verdict.specs.declared.outcome.RunFault.TheVariants.{Opening, Step, Unclosed}

@@ -1,9 +1,8 @@
 -- The walk over the names that have an indicator.
-use Rattle.std.proofs.Common.{◌≡◌, ℕ, suc, ◌+◌, ◌<◌, ◌≤◌, Bool, true, false, cond, not, ◌&&◌, ◌||◌, List, [], ◌∷◌, ◌++◌, length, get_or, take, drop, sym, refl, ap, ◌∙◌}
+use Rattle.std.proofs.Common.{◌≡◌, ℕ, ◌+◌, ◌<◌, ◌≤◌, Bool, true, false, cond, not, ◌&&◌, ◌||◌, List, [], ◌∷◌, length, get_or, take, drop, sym, refl, ap, ◌∙◌}
 use Rattle.std.specs.Str.{bytes_eq}
-use Rattle.std.proofs.lemmas.Slice.Eq.{bytes_eq-Decides}
 use Rattle.std.proofs.lemmas.List.{drop_more, drop_all, map_more}
-use Rattle.text.specs.Lists.{each, keep, some}
+use Rattle.text.specs.Lists.{each, keep}
 use Rattle.text.specs.Word.{word_in}
 use Rattle.problem.proofs.Names.{names_alike, seen_pushed, seen_again}
 use Rattle.problem.specs.Cudf.{seen_in}
@@ -12,7 +11,7 @@ use Rattle.problem.specs.Rows.{no_package}
 use Rattle.problem.specs.declared.rows.PackageRow.{PackageRow}
 use Rattle.verdict.specs.Indicators.{has_version, listed, listed_at, listed_from}
 use Rattle.verdict.specs.declared.names.Indicator.{Indicator}
-use Rattle.verdict.specs.declared.names.Indicator.TheVariants.{Removed, Changed}
+use Rattle.verdict.specs.declared.names.Indicator.TheVariants.{Changed}
 
 and_true : (b : Bool) → (b && true) ≡ b
 and_true true = refl

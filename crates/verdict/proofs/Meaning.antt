@@ -1,5 +1,5 @@
 -- A printed plan is a plan.
-use Rattle.std.proofs.Common.{◌≡◌, ℕ, List, [], ◌∷◌, Some, None, Ok, Err, Option, Result, sym, refl, ap, ◌∙◌, arith}
+use Rattle.std.proofs.Common.{◌≡◌, ℕ, List, [], ◌∷◌, Some, None, Ok, Err, Option, Result, refl, arith}
 use Rattle.problem.proofs.Agreement.{plans_agree}
 use Rattle.problem.specs.Answers.{Answered, failed, given, read_answer}
 use Rattle.problem.specs.Cudf.{Problem, Chosen, PlanOverSets, removed_count, changed_count}

@@ -1,11 +1,11 @@
 -- Steps asked one after the other, up to the first reply that ends them.
-use Rattle.std.proofs.Common.{◌≡◌, ℕ, suc, ◌<◌, Bool, true, false, cond, not, T, List, [], ◌∷◌, length, sym, refl, ap, subst, arith}
+use Rattle.std.proofs.Common.{◌≡◌, suc, ◌<◌, Bool, true, false, cond, not, T, List, [], ◌∷◌, length, sym, refl, subst, arith}
 use Rattle.certificate.specs.Reading.{Memory}
 use Rattle.certificate.specs.Stream.{Placed, Ending, finished, broken}
-use Rattle.verdict.specs.Session.{Desk, Judged, AskedOf, Asked}
-use Rattle.verdict.specs.Onward.{Stops, OnAfter, Onward}
+use Rattle.verdict.specs.Session.{Desk, AskedOf, Asked}
+use Rattle.verdict.specs.Onward.{Stops, Onward}
 use Rattle.verdict.specs.declared.reply.Reply.{Reply}
-use Rattle.verdict.specs.declared.reply.Reply.TheVariants.{Taken, Refused, Nothing}
+use Rattle.verdict.specs.declared.reply.Reply.TheVariants.{Taken}
 
 -- from here on it comes to what it comes to from the start
 pub record Leads (k : Memory) (d dᵢ : Desk) : Type 0 where

@@ -4,7 +4,7 @@ use Rattle.clauses.specs.ClauseBase.{idle, cleared}
 use Rattle.certificate.specs.Reading.{Memory}
 use Rattle.certificate.specs.Stream.{Placed, Ending}
 use Rattle.verdict.specs.Law.{Good, up_to_empty}
-use Rattle.verdict.specs.Onward.{Stops, OnAfter, Onward, OnwardLaw}
+use Rattle.verdict.specs.Onward.{Stops, OnAfter, OnwardLaw}
 use Rattle.verdict.specs.Session.{Desk, AskedOf, Asked, Run, desk_on, opens, opening_clauses, opening_variables}
 use Rattle.verdict.specs.declared.reply.Reply.{Reply}
 use Rattle.verdict.specs.declared.reply.Reply.TheVariants.{Taken, Refused, Nothing}

@@ -1,5 +1,5 @@
 -- The opening by its layout.
-use Rattle.std.proofs.Common.{◌≡◌, ℕ, zero, suc, ◌+◌, ◌-◌, ◌*◌, ◌≤◌, List, [], ◌∷◌, ◌++◌, length, ℤ, sym, refl, ap, ◌∙◌, suc-mul, mul-le-mul, arith}
+use Rattle.std.proofs.Common.{◌≡◌, ℕ, zero, suc, ◌+◌, ◌-◌, ◌*◌, ◌≤◌, List, [], ◌∷◌, ◌++◌, length, ℤ, sym, refl, ap, ◌∙◌, mul-le-mul, arith}
 use Rattle.text.specs.Lists.{up_from}
 use Rattle.text.specs.Literals.{Clause, lit, neg}
 use Rattle.problem.specs.Cudf.{Problem, names, installed_names}
@@ -8,7 +8,7 @@ use Rattle.std.proofs.lemmas.List.{append_assoc}
 use Rattle.problem.specs.Meaning.{packages_in, problem_of}
 use Rattle.problem.specs.declared.view.Problem.{Problem as View}
 use Rattle.verdict.proofs.Worded.{removed-clauses-are, changed-clauses-are}
-use Rattle.verdict.specs.Opening.{register, counter, variables, choice, first_removed, first_changed, first_s, first_t, inputs, all_names, removed_clauses, changed_clauses, at_most_r, fewer_r, fewer_c, opening}
+use Rattle.verdict.specs.Opening.{counter, variables, choice, first_removed, first_changed, first_s, first_t, inputs, all_names, removed_clauses, changed_clauses, at_most_r, fewer_r, fewer_c, opening}
 use Rattle.verdict.specs.OpeningCalls.{Places, second_base, counters_of, bounds_of, at_most, fewer}
 use Rattle.verdict.specs.declared.opening_clauses.Layout.{Layout}
 

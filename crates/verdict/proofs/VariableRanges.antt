@@ -1,5 +1,5 @@
 -- Clauses of the numbers of a range, fed one number after another.
-use Rattle.std.proofs.Common.{◌≡◌, ℕ, zero, suc, ◌+◌, ◌-◌, ◌<◌, ◌≤◌, Bool, true, false, List, [], ◌∷◌, ◌++◌, MatchBool, sym, refl, ap, ◌∙◌, subst, arith}
+use Rattle.std.proofs.Common.{◌≡◌, ℕ, suc, ◌+◌, ◌-◌, ◌<◌, ◌≤◌, true, false, List, [], ◌∷◌, sym, ap, ◌∙◌, subst, arith}
 use Rattle.text.specs.Lists.{each, each_all, up_from}
 use Rattle.text.specs.Literals.{Clause}
 use Rattle.problem.specs.Feeding.{Fed, Left}

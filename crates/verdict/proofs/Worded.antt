@@ -1,18 +1,18 @@
 -- The indicators of rows, in words.
-use Rattle.std.proofs.Common.{◌≡◌, ℕ, suc, Bool, true, false, cond, ◌&&◌, ◌||◌, List, [], ◌∷◌, ◌++◌, ℤ, sym, refl, ap, ◌∙◌}
+use Rattle.std.proofs.Common.{◌≡◌, ℕ, suc, Bool, true, false, cond, ◌&&◌, ◌||◌, List, [], ◌∷◌, ◌++◌, refl, ap, ◌∙◌}
 use Rattle.std.specs.Str.{bytes_eq}
 use Rattle.text.specs.Lists.{each, keep, some}
-use Rattle.text.specs.Literals.{Clause, lit, neg}
+use Rattle.text.specs.Literals.{lit, neg}
 use Rattle.text.specs.Word.{word_in}
 use Rattle.problem.proofs.Names.{names_are}
-use Rattle.problem.specs.Cudf.{Numbered, numbered, seen_in, names_from, names, installed_name, installed_names, versions_of}
+use Rattle.problem.specs.Cudf.{Numbered, numbered, names, installed_name, installed_names, versions_of}
 use Rattle.problem.specs.Meaning.{package_of, packages_in, constraints_in, problem_of}
 use Rattle.problem.specs.Naming.{row_names}
 use Rattle.problem.specs.Stanzas.{passing}
 use Rattle.problem.specs.declared.rows.PackageRow.{PackageRow}
 use Rattle.problem.specs.declared.rows.ConstraintRow.{ConstraintRow}
 use Rattle.problem.specs.declared.view.Problem.{Problem as View}
-use Rattle.verdict.specs.Indicators.{has_version, listed, listed_from, changed_rows, of_name, of_names}
+use Rattle.verdict.specs.Indicators.{has_version, listed, listed_from, changed_rows, of_names}
 use Rattle.verdict.specs.Opening.{removed_clauses, changed_clauses}
 use Rattle.verdict.specs.declared.names.Indicator.TheVariants.{Removed, Changed}
 

@@ -26,7 +26,7 @@ use Rattle.problem.specs.PlanClauses.{plan_clauses, first_false}
 use Rattle.clauses.specs.ClauseBase.{Meaning, idle, cleared}
 use Rattle.certificate.specs.Stream.{Placed, Stream}
 use Rattle.certificate.specs.Reading.{Memory, memory_of, standing}
-use Rattle.verdict.specs.Session.{Desk, Run, Answer, fail, set, opening_variables, opening_clauses, opens, opening_fits, desk_on, IsPlanOrFail}
+use Rattle.verdict.specs.Session.{Desk, Run, Answer, fail, set, opens, opening_fits, desk_on, IsPlanOrFail}
 use Rattle.verdict.specs.Calls.{LeavesAfter}
 use Rattle.verdict.specs.Law.{Means, verdict_of, Good, up_to_empty}
 

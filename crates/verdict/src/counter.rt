@@ -13,7 +13,7 @@ fn feed_kept<S: ClauseSink>(before: u32, row: u32, limit: u32, sink: &mut S) -> 
     requires before { 1 ≤ before }
     requires order { before ≤ row }
     requires few { row + limit ≤ 1000000 }
-    ensures { Fed goes stops (each (λ j. neg (before + (j - 1)) ∷ lit (row + (j - 1)) ∷ []) (up_from 1 limit)) result sink.old sink.new }
+    ensures { Fed S.goes S.stops (each (λ j. neg (before + (j - 1)) ∷ lit (row + (j - 1)) ∷ []) (up_from 1 limit)) result sink.old sink.new }
 {
     for j in 0..limit {
         if !sink.take(&[no(before + j), yes(row + j)]) {
@@ -30,7 +30,7 @@ fn feed_raised<S: ClauseSink>(input: u32, before: u32, row: u32, limit: u32, sin
     requires before { 1 ≤ before }
     requires order { before ≤ row }
     requires few { row + limit < 1000000 }
-    ensures { Fed goes stops (each (λ j. neg input ∷ neg (before + (j - 1)) ∷ lit (row + (suc j - 1)) ∷ []) (up_from 1 limit)) result sink.old sink.new }
+    ensures { Fed S.goes S.stops (each (λ j. neg input ∷ neg (before + (j - 1)) ∷ lit (row + (suc j - 1)) ∷ []) (up_from 1 limit)) result sink.old sink.new }
 {
     for j in 0..limit {
         if !sink.take(&[no(input), no(before + j), yes(row + j + 1)]) {
@@ -46,7 +46,7 @@ fn feed_input<S: ClauseSink>(base: u32, limit: u32, input: u32, place: u32, sink
     requires input { 1 ≤ input }
     requires small { input ≤ 1000000 }
     requires few { base + (suc place) * limit ≤ 1000000 }
-    ensures { Fed goes stops (counter_input base limit (neg input) (suc place)) result sink.old sink.new }
+    ensures { Fed S.goes S.stops (counter_input base limit (neg input) (suc place)) result sink.old sink.new }
 {
     if limit == 0 {
         return true;
@@ -74,7 +74,7 @@ pub(crate) fn feed_counter<S: ClauseSink>(
     requires first { 1 ≤ first }
     requires small { first + inputs ≤ 1000000 }
     requires few { base + inputs * limit ≤ 1000000 }
-    ensures { Fed goes stops (counter base limit 1 (up_from first inputs)) result sink.old sink.new }
+    ensures { Fed S.goes S.stops (counter base limit 1 (up_from first inputs)) result sink.old sink.new }
 {
     for place in 0..inputs {
         if !feed_input(base, limit, first + place, place, sink) {

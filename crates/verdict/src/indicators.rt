@@ -22,7 +22,7 @@ use text::word::bytes_of;
 fn feed_change<S: ClauseSink>(installed: bool, place: usize, variable: u32, sink: &mut S) -> bool
     requires place { place < 256 }
     requires small { variable ≤ 1000000 }
-    ensures { Fed goes stops (((if installed then lit (suc place) else neg (suc place)) ∷ lit variable ∷ []) ∷ []) result sink.old sink.new }
+    ensures { Fed S.goes S.stops (((if installed then lit (suc place) else neg (suc place)) ∷ lit variable ∷ []) ∷ []) result sink.old sink.new }
 {
     let number = place as u32 + 1;
     if installed {
@@ -42,7 +42,7 @@ fn feed_changed<S: ClauseSink>(
 ) -> bool
     requires few { length packages.now ≤ 256 }
     requires small { variable ≤ 1000000 }
-    ensures { Fed goes stops (changed_rows text.now name.now variable 0 packages.now) result sink.old sink.new }
+    ensures { Fed S.goes S.stops (changed_rows text.now name.now variable 0 packages.now) result sink.old sink.new }
 {
     for (i, row) in packages.iter().enumerate() {
         if same_bytes(name, bytes_of(text, row.name))
@@ -91,7 +91,7 @@ fn feed_removed<S: ClauseSink>(
     requires few { length packages.now ≤ 256 }
     requires small { variable ≤ 1000000 }
     requires fits { 257 ≤ room clause.old }
-    ensures fed { Fed goes stops (of_name Removed text.now packages.now variable name.now) result sink.old sink.new }
+    ensures fed { Fed S.goes S.stops (of_name Removed text.now packages.now variable name.now) result sink.old sink.new }
     ensures room { room clause.new ≡ room clause.old }
 {
     clause.clear();
@@ -113,7 +113,7 @@ fn feed_indicator<S: ClauseSink>(
     requires few { length packages.now ≤ 256 }
     requires small { variable ≤ 1000000 }
     requires fits { 257 ≤ room clause.old }
-    ensures fed { Fed goes stops (of_name indicator text.now packages.now variable name.now) result sink.old sink.new }
+    ensures fed { Fed S.goes S.stops (of_name indicator text.now packages.now variable name.now) result sink.old sink.new }
     ensures room { room clause.new ≡ room clause.old }
 {
     match indicator {
@@ -134,7 +134,7 @@ pub(crate) fn feed_indicators<S: ClauseSink>(
     requires few { length packages.now ≤ 256 }
     requires small { first ≤ 10000 }
     requires fits { 257 ≤ room clause.old }
-    ensures fed { Fed goes stops (of_names indicator text.now packages.now first (listed_from indicator text.now packages.now 0)) result sink.old sink.new }
+    ensures fed { Fed S.goes S.stops (of_names indicator text.now packages.now first (listed_from indicator text.now packages.now 0)) result sink.old sink.new }
     ensures room { room clause.new ≡ room clause.old }
 {
     let mut variable = first;

@@ -69,7 +69,7 @@ fn feed_counters<S: ClauseSink>(places: Layout, removed: u32, changed: u32, sink
     requires small { Small places }
     requires removed { removed ≤ 256 }
     requires changed { changed ≤ 256 }
-    ensures { Fed goes stops (counters_of places removed changed) result sink.old sink.new }
+    ensures { Fed S.goes S.stops (counters_of places removed changed) result sink.old sink.new }
 {
     let first = places.choice + 1;
     let limit = removed + 1;
@@ -85,7 +85,7 @@ fn feed_at_most<S: ClauseSink>(base: u32, limit: u32, inputs: u32, sink: &mut S)
     requires base { 1 ≤ base }
     requires limit { 1 ≤ limit }
     requires few { base + inputs * limit ≤ 1000000 }
-    ensures { Fed goes stops (at_most base limit inputs) result sink.old sink.new }
+    ensures { Fed S.goes S.stops (at_most base limit inputs) result sink.old sink.new }
 {
     if inputs == 0 {
         return true;
@@ -97,7 +97,7 @@ fn feed_at_most<S: ClauseSink>(base: u32, limit: u32, inputs: u32, sink: &mut S)
 fn feed_fewer<S: ClauseSink>(literal: i32, row: u32, count: u32, sink: &mut S) -> bool
     requires row { 1 ≤ row }
     requires few { row + count ≤ 1000000 }
-    ensures { Fed goes stops (fewer literal row count ∷ []) result sink.old sink.new }
+    ensures { Fed S.goes S.stops (fewer literal row count ∷ []) result sink.old sink.new }
 {
     if count == 0 {
         return sink.take(&[literal]);
@@ -114,7 +114,7 @@ fn feed_names<S: ClauseSink>(
 ) -> bool
     requires removed { removed ≤ 10000 }
     requires changed { changed ≤ 10000 }
-    ensures { Fed goes stops (removed_clauses (problem_of problem.now) 0 0 removed (installed_names (problem_of problem.now)) ++ changed_clauses (problem_of problem.now) 0 0 changed (names (problem_of problem.now))) result sink.old sink.new }
+    ensures { Fed S.goes S.stops (removed_clauses (problem_of problem.now) 0 0 removed (installed_names (problem_of problem.now)) ++ changed_clauses (problem_of problem.now) 0 0 changed (names (problem_of problem.now))) result sink.old sink.new }
 {
     let mut memory = [0; 257];
     let mut clause = Rows::new(&mut memory, 0);
@@ -145,7 +145,7 @@ fn feed_bounds<S: ClauseSink>(places: Layout, removed: u32, changed: u32, sink: 
     requires small { Small places }
     requires removed { removed ≤ 256 }
     requires changed { changed ≤ 256 }
-    ensures { Fed goes stops (bounds_of places removed changed) result sink.old sink.new }
+    ensures { Fed S.goes S.stops (bounds_of places removed changed) result sink.old sink.new }
 {
     let first = places.choice + 1;
     let limit = removed + 1;
@@ -169,7 +169,7 @@ pub fn feed_opening<S: ClauseSink>(
     changed: u32,
     sink: &mut S,
 ) -> bool
-    ensures { Fed goes stops (opening (problem_of problem.now) (min removed 256) (min changed 256)) result sink.old sink.new }
+    ensures { Fed S.goes S.stops (opening (problem_of problem.now) (min removed 256) (min changed 256)) result sink.old sink.new }
 {
     let places = lay_out(problem);
     let most = removed.min(256);

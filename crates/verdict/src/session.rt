@@ -61,9 +61,9 @@ impl Open {
         literals: &mut [i32],
         hints: &mut [u32],
     ) -> Reply
-        ensures asked { Asked (memory_of literals.old hints.old) (desk_of self.old (meaning base.old) (rest source.old)) result (desk_of self.new (meaning base.new) (rest source.new)) }
+        ensures asked { Asked (memory_of literals.old hints.old) (desk_of self.old (B.meaning base.old) (S.rest source.old)) result (desk_of self.new (B.meaning base.new) (S.rest source.new)) }
         ensures claim { self.new.claim ≡ self.old.claim }
-        ensures memory { Leaves (memory_of literals.old hints.old) (rest source.old).steps literals.new hints.new }
+        ensures memory { Leaves (memory_of literals.old hints.old) (S.rest source.old).steps literals.new hints.new }
     {
         match source.read(literals, hints) {
             Err(SourceFault::Form(p)) => Reply::Refused(StepFault::Form, p),
@@ -119,9 +119,9 @@ pub fn ask_all<B: ClauseBase, S: Source>(
     hints: &mut [u32],
     replies: &mut [Reply],
 )
-    ensures run { Run (memory_of literals.old hints.old) (desk_of session.old (meaning base.old) (rest source.old)) replies.new (desk_of session.new (meaning base.new) (rest source.new)) }
+    ensures run { Run (memory_of literals.old hints.old) (desk_of session.old (B.meaning base.old) (S.rest source.old)) replies.new (desk_of session.new (B.meaning base.new) (S.rest source.new)) }
     ensures claim { session.new.claim ≡ session.old.claim }
-    ensures memory { LeavesAfter (memory_of literals.old hints.old) (rest source.old).steps (length replies.old) literals.old hints.old literals.new hints.new }
+    ensures memory { LeavesAfter (memory_of literals.old hints.old) (S.rest source.old).steps (length replies.old) literals.old hints.old literals.new hints.new }
 {
     for r in replies.iter_mut() {
         *r = session.ask(base, source, literals, hints);
@@ -136,7 +136,7 @@ fn ask_each<B: ClauseBase, S: Source>(
     literals: &mut [i32],
     hints: &mut [u32],
 ) -> Reply
-    ensures onward { Onward (memory_of literals.old hints.old) (desk_of session.old (meaning base.old) (rest source.old)) result (desk_of session.new (meaning base.new) (rest source.new)) }
+    ensures onward { Onward (memory_of literals.old hints.old) (desk_of session.old (B.meaning base.old) (S.rest source.old)) result (desk_of session.new (B.meaning base.new) (S.rest source.new)) }
     ensures claim { session.new.claim ≡ session.old.claim }
 {
     while !session.emptied {
@@ -157,7 +157,7 @@ pub fn ask_on<B: ClauseBase, S: Source>(
     literals: &mut [i32],
     hints: &mut [u32],
 ) -> Reply
-    ensures onward { Onward (memory_of literals.old hints.old) (desk_of session.old (meaning base.old) (rest source.old)) result (desk_of session.new (meaning base.new) (rest source.new)) }
+    ensures onward { Onward (memory_of literals.old hints.old) (desk_of session.old (B.meaning base.old) (S.rest source.old)) result (desk_of session.new (B.meaning base.new) (S.rest source.new)) }
     ensures claim { session.new.claim ≡ session.old.claim }
     ensures literals { literals.new ≡ replicate (length literals.old) (pos 0) }
     ensures hints { hints.new ≡ replicate (length hints.old) 0 }

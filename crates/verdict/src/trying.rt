@@ -11,7 +11,7 @@ use clauses::fault::{BaseFault, Hinted};
 
 /// Whether a clause follows from the clauses held; the trial is over on every way out.
 pub fn follows<B: ClauseBase>(base: &mut B, clause: &[i32]) -> Result<bool, BaseFault>
-    ensures { Tells (meaning base.old) clause.now None result (meaning base.new) }
+    ensures { Tells (B.meaning base.old) clause.now None result (B.meaning base.new) }
 {
     let mark = base.start(clause)?;
     let answer = base.run();
@@ -21,8 +21,8 @@ pub fn follows<B: ClauseBase>(base: &mut B, clause: &[i32]) -> Result<bool, Base
 
 /// Whether the hints, all of them, are a chain from the trial's values; its conflict is at the last.
 fn hints_show<B: ClauseBase>(base: &mut B, hints: &[u32]) -> Result<bool, BaseFault>
-    ensures shown { Follow (meaning base.old).live (meaning base.old).trial hints.now result }
-    ensures rest { meaning base.new ≡ with_trial (meaning base.old) (meaning base.new).trial }
+    ensures shown { Follow (B.meaning base.old).live (B.meaning base.old).trial hints.now result }
+    ensures rest { B.meaning base.new ≡ with_trial (B.meaning base.old) (B.meaning base.new).trial }
 {
     for (i, h) in hints.iter().enumerate() {
         match base.hint(*h)? {
@@ -40,7 +40,7 @@ pub fn follows_by<B: ClauseBase>(
     clause: &[i32],
     hints: &[u32],
 ) -> Result<bool, BaseFault>
-    ensures { Tells (meaning base.old) clause.now (Some hints.now) result (meaning base.new) }
+    ensures { Tells (B.meaning base.old) clause.now (Some hints.now) result (B.meaning base.new) }
 {
     let mark = base.start(clause)?;
     let answer = hints_show(base, hints);
@@ -50,7 +50,7 @@ pub fn follows_by<B: ClauseBase>(
 
 /// Adds a clause that was shown, and says whether it is empty.
 fn settle<B: ClauseBase>(base: &mut B, clause: &[i32], shown: bool) -> Result<bool, StepFault>
-    ensures { Settles (meaning base.old) clause.now shown result (meaning base.new) }
+    ensures { Settles (B.meaning base.old) clause.now shown result (B.meaning base.new) }
 {
     if !shown {
         return Err(StepFault::NotShown);
@@ -67,7 +67,7 @@ pub(crate) fn try_step<B: ClauseBase>(
     hints: &[u32],
 ) -> Result<bool, StepFault>
     requires { (literals_in shape ≤ length literals.now) × (hints_in shape ≤ length hints.now) }
-    ensures { Tries (memory_of literals.now hints.now) (meaning base.old) (step_in shape literals.now hints.now) result (meaning base.new) }
+    ensures { Tries (memory_of literals.now hints.now) (B.meaning base.old) (step_in shape literals.now hints.now) result (B.meaning base.new) }
 {
     match shape {
         Shape::Delete(n) => {

@@ -20,8 +20,8 @@ fn lay<B: ClauseBase, C: Case>(
     case: &C,
     literals: &mut [i32],
 ) -> Result<(), BaseFault>
-    requires { ((meaning base.old).trial ≡ idle) × (HoldsEach (length literals.old) (opening_clauses (problem case.now) (answer case.now))) }
-    ensures { Lays (meaning base.old) (problem case.now) (answer case.now) result (meaning base.new) }
+    requires { ((B.meaning base.old).trial ≡ idle) × (HoldsEach (length literals.old) (opening_clauses (C.problem case.now) (C.answer case.now))) }
+    ensures { Lays (B.meaning base.old) (C.problem case.now) (C.answer case.now) result (B.meaning base.new) }
 {
     base.clear(case.variables())?;
     for i in 0..case.clauses() {
@@ -37,9 +37,9 @@ pub(crate) fn open<B: ClauseBase, C: Case>(
     case: &C,
     literals: &mut [i32],
 ) -> Result<Open, OpenFault>
-    requires { HoldsEach (length literals.old) (opening_clauses (problem case.now) (answer case.now)) }
+    requires { HoldsEach (length literals.old) (opening_clauses (C.problem case.now) (C.answer case.now)) }
     ensures memory { OpeningLeaves literals.old result literals.new }
-    ensures opens { Opens (meaning base.old) (problem case.now) (answer case.now) result (meaning base.new) }
+    ensures opens { Opens (B.meaning base.old) (C.problem case.now) (C.answer case.now) result (B.meaning base.new) }
 {
     if base.clear(0).is_err() {
         return Err(OpenFault::InTrial);
@@ -65,11 +65,11 @@ pub(crate) fn run_session<B: ClauseBase, C: Case, S: Source>(
     hints: &mut [u32],
     replies: &mut [Reply],
 ) -> Result<Verdict, SessionFault>
-    requires { HoldsEach (length literals.old) (opening_clauses (problem case.now) (answer case.now)) }
-    ensures run { Concludes (problem case.now) (answer case.now) (memory_of literals.old hints.old) (meaning base.old) (rest source.old) replies.old result replies.new (meaning base.new) (rest source.new) }
-    ensures memory { RunLeaves literals.old hints.old (rest source.old).steps (length replies.old) result literals.new hints.new }
-    ensures sound { TrueVerdict (problem case.now) (answer case.now) result }
-    ensures complete { Complete (problem case.now) (answer case.now) (memory_of literals.old hints.old) (meaning base.old) (rest source.old) (length replies.old) result }
+    requires { HoldsEach (length literals.old) (opening_clauses (C.problem case.now) (C.answer case.now)) }
+    ensures run { Concludes (C.problem case.now) (C.answer case.now) (memory_of literals.old hints.old) (B.meaning base.old) (S.rest source.old) replies.old result replies.new (B.meaning base.new) (S.rest source.new) }
+    ensures memory { RunLeaves literals.old hints.old (S.rest source.old).steps (length replies.old) result literals.new hints.new }
+    ensures sound { TrueVerdict (C.problem case.now) (C.answer case.now) result }
+    ensures complete { Complete (C.problem case.now) (C.answer case.now) (memory_of literals.old hints.old) (B.meaning base.old) (S.rest source.old) (length replies.old) result }
 {
     let mut session = match open(base, case, literals) {
         Ok(session) => session,
@@ -103,11 +103,11 @@ pub(crate) fn conclude<B: ClauseBase, C: Case, S: Source>(
     literals: &mut [i32],
     hints: &mut [u32],
 ) -> Result<Verdict, RunFault>
-    requires { HoldsEach (length literals.old) (opening_clauses (problem case.now) (answer case.now)) }
+    requires { HoldsEach (length literals.old) (opening_clauses (C.problem case.now) (C.answer case.now)) }
     ensures memory { FindLeaves literals.old hints.old result literals.new hints.new }
-    ensures run { Finds (problem case.now) (answer case.now) (memory_of literals.old hints.old) (meaning base.old) (rest source.old) result (meaning base.new) (rest source.new) }
-    ensures sound { FoundTrue (problem case.now) (answer case.now) result }
-    ensures complete { Found (problem case.now) (answer case.now) (memory_of literals.old hints.old) (meaning base.old) (rest source.old) result }
+    ensures run { Finds (C.problem case.now) (C.answer case.now) (memory_of literals.old hints.old) (B.meaning base.old) (S.rest source.old) result (B.meaning base.new) (S.rest source.new) }
+    ensures sound { FoundTrue (C.problem case.now) (C.answer case.now) result }
+    ensures complete { Found (C.problem case.now) (C.answer case.now) (memory_of literals.old hints.old) (B.meaning base.old) (S.rest source.old) result }
 {
     let mut session = match open(base, case, literals) {
         Ok(session) => session,

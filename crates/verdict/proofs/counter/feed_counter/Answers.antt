@@ -6,20 +6,20 @@ use Rattle.verdict.proofs.counter.feed_counter.Goals as goal
 pub loop-place-init : goal.loop-place-init
 loop-place-init g c = inputs_left _ _ c.args.base c.args.limit c.args.first c.args.inputs _
 
-pub feed-input-requires : goal.feed-input-requires
-feed-input-requires g c = record {
+pub feed_input-requires : goal.feed_input-requires
+feed_input-requires g c = record {
   base = c.requires.base;
   input = omega arith;
   small = omega arith;
   few = row_fits c.args.base c.args.limit c.loop-place.place 1000000 c.args.inputs c.loop-place-test.true c.requires.few;
 }
 
-pub returns-then-not-feed-input : goal.returns-then-not-feed-input
-returns-then-not-feed-input g c =
+pub returns-then-not-feed_input : goal.returns-then-not-feed_input
+returns-then-not-feed_input g c =
     let z : c.loop-place.place ≡ 0 + c.loop-place.place = omega arith in
-    range-left _ _ _ _ _ _ _ 0 c.args.inputs c.loop-place.place c.loop-place.place z c.loop-place-test.true c.loop-place.invariant c.if-not-feed-input.ensures
+    range-left _ _ _ _ _ _ _ 0 c.args.inputs c.loop-place.place c.loop-place.place z c.loop-place-test.true c.loop-place.invariant c.if-not-feed_input.ensures
 
 pub loop-place-preserved : goal.loop-place-preserved
 loop-place-preserved g c =
     let z : c.loop-place.place ≡ 0 + c.loop-place.place = omega arith in
-    range-fed _ _ _ _ _ _ _ 0 c.args.inputs c.loop-place.place c.loop-place.place z c.loop-place-test.true c.loop-place.invariant c.if-not-feed-input.ensures
+    range-fed _ _ _ _ _ _ _ 0 c.args.inputs c.loop-place.place c.loop-place.place z c.loop-place-test.true c.loop-place.invariant c.if-not-feed_input.ensures

@@ -1,4 +1,4 @@
-use Rattle.std.proofs.Common.{◌+◌, drop}
+use Rattle.std.proofs.Common.{drop}
 use Rattle.problem.specs.Feeding.{Left}
 use Rattle.verdict.specs.Indicators.{changed_rows}
 use Rattle.verdict.proofs.indicators.feed_changed.Given as goal

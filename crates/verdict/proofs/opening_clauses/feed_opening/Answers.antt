@@ -2,22 +2,22 @@ use Rattle.problem.proofs.Feeds.{fed_on, fed_stop, fed_as}
 use Rattle.verdict.proofs.OpeningParts.{opened}
 use Rattle.verdict.proofs.opening_clauses.feed_opening.Goals as goal
 
-pub returns-then-not-feed-plan-clauses : goal.returns-then-not-feed-plan-clauses
-returns-then-not-feed-plan-clauses g c =
-    fed_as _ _ _ _ _ _ _ (opened c.args.problem.now c.lay-out-places.result c.lay-out-places.ensures _ _ _ _ c.min-most.ensures c.min-more.ensures)
-    (fed_stop _ _ _ _ _ _ (fed_stop _ _ _ _ _ _ (fed_stop _ _ _ _ _ _ c.if-not-feed-plan-clauses.ensures)))
+pub returns-then-not-feed_plan_clauses : goal.returns-then-not-feed_plan_clauses
+returns-then-not-feed_plan_clauses g c =
+    fed_as _ _ _ _ _ _ _ (opened c.args.problem.now c.lay_out-places.result c.lay_out-places.ensures _ _ _ _ c.min-most.ensures c.min-more.ensures)
+    (fed_stop _ _ _ _ _ _ (fed_stop _ _ _ _ _ _ (fed_stop _ _ _ _ _ _ c.if-not-feed_plan_clauses.ensures)))
 
-pub returns-then-not-feed-names : goal.returns-then-not-feed-names
-returns-then-not-feed-names g c =
-    fed_as _ _ _ _ _ _ _ (opened c.args.problem.now c.lay-out-places.result c.lay-out-places.ensures _ _ _ _ c.min-most.ensures c.min-more.ensures)
-    (fed_stop _ _ _ _ _ _ (fed_stop _ _ _ _ _ _ (fed_on _ _ _ _ _ _ _ _ c.if-not-feed-plan-clauses.ensures c.if-not-feed-names.ensures)))
+pub returns-then-not-feed_names : goal.returns-then-not-feed_names
+returns-then-not-feed_names g c =
+    fed_as _ _ _ _ _ _ _ (opened c.args.problem.now c.lay_out-places.result c.lay_out-places.ensures _ _ _ _ c.min-most.ensures c.min-more.ensures)
+    (fed_stop _ _ _ _ _ _ (fed_stop _ _ _ _ _ _ (fed_on _ _ _ _ _ _ _ _ c.if-not-feed_plan_clauses.ensures c.if-not-feed_names.ensures)))
 
-pub returns-then-not-feed-counters : goal.returns-then-not-feed-counters
-returns-then-not-feed-counters g c =
-    fed_as _ _ _ _ _ _ _ (opened c.args.problem.now c.lay-out-places.result c.lay-out-places.ensures _ _ _ _ c.min-most.ensures c.min-more.ensures)
-    (fed_stop _ _ _ _ _ _ (fed_on _ _ _ _ _ _ _ _ (fed_on _ _ _ _ _ _ _ _ c.if-not-feed-plan-clauses.ensures c.if-not-feed-names.ensures) c.if-not-feed-counters.ensures))
+pub returns-then-not-feed_counters : goal.returns-then-not-feed_counters
+returns-then-not-feed_counters g c =
+    fed_as _ _ _ _ _ _ _ (opened c.args.problem.now c.lay_out-places.result c.lay_out-places.ensures _ _ _ _ c.min-most.ensures c.min-more.ensures)
+    (fed_stop _ _ _ _ _ _ (fed_on _ _ _ _ _ _ _ _ (fed_on _ _ _ _ _ _ _ _ c.if-not-feed_plan_clauses.ensures c.if-not-feed_names.ensures) c.if-not-feed_counters.ensures))
 
 pub returns : goal.returns
 returns g c =
-    fed_as _ _ _ _ _ _ _ (opened c.args.problem.now c.lay-out-places.result c.lay-out-places.ensures _ _ _ _ c.min-most.ensures c.min-more.ensures)
-    (fed_on _ _ _ _ _ _ _ _ (fed_on _ _ _ _ _ _ _ _ (fed_on _ _ _ _ _ _ _ _ c.if-not-feed-plan-clauses.ensures c.if-not-feed-names.ensures) c.if-not-feed-counters.ensures) c.feed-bounds.ensures)
+    fed_as _ _ _ _ _ _ _ (opened c.args.problem.now c.lay_out-places.result c.lay_out-places.ensures _ _ _ _ c.min-most.ensures c.min-more.ensures)
+    (fed_on _ _ _ _ _ _ _ _ (fed_on _ _ _ _ _ _ _ _ (fed_on _ _ _ _ _ _ _ _ c.if-not-feed_plan_clauses.ensures c.if-not-feed_names.ensures) c.if-not-feed_counters.ensures) c.feed_bounds.ensures)

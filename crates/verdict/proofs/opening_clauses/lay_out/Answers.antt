@@ -1,4 +1,4 @@
-use Rattle.std.proofs.Common.{◌≡◌, suc, ◌+◌, ◌≤◌, length, refl, ap, ◌∙◌, arith}
+use Rattle.std.proofs.Common.{◌≤◌, length, refl, ap, ◌∙◌, arith}
 use Rattle.std.proofs.lemmas.List.{length-map}
 use Rattle.problem.specs.Meaning.{package_of, packages_in, constraints_in}
 use Rattle.verdict.proofs.Worded.{removed_names_are, all_names_are}
@@ -10,11 +10,11 @@ returns c =
     let few : length c.packages-packages.result.now ≤ 256 = omega (arith, c.packages-packages.ensures.len, c.args.problem.now.packages_few) in
     record {
       removed = omega (arith, ap length e, length-map (packages_in c.args.problem.now) (package_of c.args.problem.now.text.now (constraints_in c.args.problem.now)));
-      installed = c.count-listed-installed.ensures.count ∙ ap length (removed_names_are c.args.problem.now _ _ c.text-text.ensures e);
-      names = c.count-listed-names.ensures.count ∙ ap length (all_names_are c.args.problem.now _ _ c.text-text.ensures e);
+      installed = c.count_listed-installed.ensures.count ∙ ap length (removed_names_are c.args.problem.now _ _ c.text-text.ensures e);
+      names = c.count_listed-names.ensures.count ∙ ap length (all_names_are c.args.problem.now _ _ c.text-text.ensures e);
       changed = refl;
       choice = refl;
       few = omega (arith, few);
-      installed_few = omega (arith, few, c.count-listed-installed.ensures.few);
-      names_few = omega (arith, few, c.count-listed-names.ensures.few);
+      installed_few = omega (arith, few, c.count_listed-installed.ensures.few);
+      names_few = omega (arith, few, c.count_listed-names.ensures.few);
     }

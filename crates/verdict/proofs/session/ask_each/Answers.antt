@@ -1,8 +1,8 @@
-use Rattle.std.proofs.Common.{◌≡◌, ◌∙◌, rules}
+use Rattle.std.proofs.Common.{◌∙◌, rules}
 use Rattle.certificate.specs.Reading.{memory_of}
 use Rattle.verdict.specs.Opened.{desk_of}
 use Rattle.verdict.proofs.Asking.{same_memory}
-use Rattle.verdict.proofs.Onward.{leads_more, leads_stop, leads_emptied, fewer}
+use Rattle.verdict.proofs.Onward.{leads_more}
 use Rattle.verdict.proofs.session.ask_each.Goals as goal
 
 pub loop-session-preserved : goal.loop-session-preserved

@@ -11,15 +11,15 @@ returns g c =
     let a = g.C.Case.answer c.args.case.now in
     let k = memory_of c.args.literals.now c.args.hints.now in
     let m = g.B.ClauseBase.meaning c.args.base.now in
-    let m' = g.B.ClauseBase.meaning c.ask-on-reply.new.base in
+    let m' = g.B.ClauseBase.meaning c.ask_on-reply.new.base in
     let s = g.S.Source.rest c.args.source.now in
-    let s' = g.S.Source.rest c.ask-on-reply.new.source in
+    let s' = g.S.Source.rest c.ask_on-reply.new.source in
     let v = c.end.result in
-    let w = finds q a k (memory_of c.open.new.literals c.args.hints.now) m (g.B.ClauseBase.meaning c.open.new.base) m' s s' c.in-Ok.session c.ask-on-reply.new.session c.in-Ok.ensures.opens
-    (same_memory c.open.new.literals c.args.literals.now c.args.hints.now c.args.hints.now c.open.auto.literals refl) c.ask-on-reply.ensures.claim c.ask-on-reply.result v c.ask-on-reply.ensures.onward c.end.ensures in
+    let w = finds q a k (memory_of c.open.new.literals c.args.hints.now) m (g.B.ClauseBase.meaning c.open.new.base) m' s s' c.in-Ok.session c.ask_on-reply.new.session c.in-Ok.ensures.opens
+    (same_memory c.open.new.literals c.args.literals.now c.args.hints.now c.args.hints.now c.open.auto.literals refl) c.ask_on-reply.ensures.claim c.ask_on-reply.result v c.ask_on-reply.ensures.onward c.end.ensures in
     record {
-      memory = find_leaves c.args.literals.now c.open.new.literals c.ask-on-reply.new.literals c.args.hints.now c.ask-on-reply.new.hints c.open.auto.literals
-          c.ask-on-reply.ensures.literals c.ask-on-reply.ensures.hints c.ask-on-reply.new.session c.ask-on-reply.result v c.end.ensures;
+      memory = find_leaves c.args.literals.now c.open.new.literals c.ask_on-reply.new.literals c.args.hints.now c.ask_on-reply.new.hints c.open.auto.literals
+          c.ask_on-reply.ensures.literals c.ask_on-reply.ensures.hints c.ask_on-reply.new.session c.ask_on-reply.result v c.end.ensures;
       run = w;
       sound = found_true q a k m m' s s' v w;
       complete = found q a k m m' s s' v w;

@@ -11,20 +11,20 @@ returns-in-Ok-close g c =
     let a = g.C.Case.answer c.args.case.now in
     let k = memory_of c.args.literals.now c.args.hints.now in
     let m = g.B.ClauseBase.meaning c.args.base.now in
-    let m' = g.B.ClauseBase.meaning c.ask-all.new.base in
+    let m' = g.B.ClauseBase.meaning c.ask_all.new.base in
     let s = g.S.Source.rest c.args.source.now in
-    let s' = g.S.Source.rest c.ask-all.new.source in
+    let s' = g.S.Source.rest c.ask_all.new.source in
     let rs = c.args.replies.now in
-    let rs' = c.ask-all.new.replies in
-    let w = concludes-verdict q a k (memory_of c.open.new.literals c.args.hints.now) m (g.B.ClauseBase.meaning c.open.new.base) m' s s' c.in-Ok.session c.ask-all.new.session rs'
-    c.in-Ok.ensures.opens (same_memory c.open.new.literals c.args.literals.now c.args.hints.now c.args.hints.now c.open.auto.literals refl) c.ask-all.ensures.run
-    rs c.in-Ok-close.refuted.claim c.verdict.result c.ask-all.ensures.claim c.in-Ok-close.ensures.0 c.in-Ok-close.ensures.1 c.verdict.ensures in
+    let rs' = c.ask_all.new.replies in
+    let w = concludes-verdict q a k (memory_of c.open.new.literals c.args.hints.now) m (g.B.ClauseBase.meaning c.open.new.base) m' s s' c.in-Ok.session c.ask_all.new.session rs'
+    c.in-Ok.ensures.opens (same_memory c.open.new.literals c.args.literals.now c.args.hints.now c.args.hints.now c.open.auto.literals refl) c.ask_all.ensures.run
+    rs c.in-Ok-close.refuted.claim c.verdict.result c.ask_all.ensures.claim c.in-Ok-close.ensures.0 c.in-Ok-close.ensures.1 c.verdict.ensures in
     record {
       run = w;
-      memory = leaves_from k (memory_of c.open.new.literals c.args.hints.now) s.steps (length rs) c.open.new.literals (standing (pos 0) (length c.args.literals.now) []) c.args.hints.now c.ask-all.new.literals c.ask-all.new.hints
-          (same_memory c.open.new.literals c.args.literals.now c.args.hints.now c.args.hints.now c.open.auto.literals refl) c.in-Ok.ensures.memory c.ask-all.ensures.memory;
+      memory = leaves_from k (memory_of c.open.new.literals c.args.hints.now) s.steps (length rs) c.open.new.literals (standing (pos 0) (length c.args.literals.now) []) c.args.hints.now c.ask_all.new.literals c.ask_all.new.hints
+          (same_memory c.open.new.literals c.args.literals.now c.args.hints.now c.args.hints.now c.open.auto.literals refl) c.in-Ok.ensures.memory c.ask_all.ensures.memory;
       sound = verdict_true q a k m m' s s' rs rs' (Ok c.verdict.result) w;
-      complete = complete q a k m m' s s' rs rs' (length rs) c.ask-all.auto.replies (Ok c.verdict.result) w;
+      complete = complete q a k m m' s s' rs rs' (length rs) c.ask_all.auto.replies (Ok c.verdict.result) w;
     }
 
 pub returns-in-Err-close : goal.returns-in-Err-close
@@ -33,20 +33,20 @@ returns-in-Err-close g c =
     let a = g.C.Case.answer c.args.case.now in
     let k = memory_of c.args.literals.now c.args.hints.now in
     let m = g.B.ClauseBase.meaning c.args.base.now in
-    let m' = g.B.ClauseBase.meaning c.ask-all.new.base in
+    let m' = g.B.ClauseBase.meaning c.ask_all.new.base in
     let s = g.S.Source.rest c.args.source.now in
-    let s' = g.S.Source.rest c.ask-all.new.source in
+    let s' = g.S.Source.rest c.ask_all.new.source in
     let rs = c.args.replies.now in
-    let rs' = c.ask-all.new.replies in
-    let w = concludes-unclosed q a k (memory_of c.open.new.literals c.args.hints.now) m (g.B.ClauseBase.meaning c.open.new.base) m' s s' c.in-Ok.session c.ask-all.new.session rs'
-    c.in-Ok.ensures.opens (same_memory c.open.new.literals c.args.literals.now c.args.hints.now c.args.hints.now c.open.auto.literals refl) c.ask-all.ensures.run
+    let rs' = c.ask_all.new.replies in
+    let w = concludes-unclosed q a k (memory_of c.open.new.literals c.args.hints.now) m (g.B.ClauseBase.meaning c.open.new.base) m' s s' c.in-Ok.session c.ask_all.new.session rs'
+    c.in-Ok.ensures.opens (same_memory c.open.new.literals c.args.literals.now c.args.hints.now c.args.hints.now c.open.auto.literals refl) c.ask_all.ensures.run
     rs c.in-Err-close.still.place c.in-Err-close.ensures.0 c.in-Err-close.ensures.2 in
     record {
       run = w;
-      memory = leaves_from k (memory_of c.open.new.literals c.args.hints.now) s.steps (length rs) c.open.new.literals (standing (pos 0) (length c.args.literals.now) []) c.args.hints.now c.ask-all.new.literals c.ask-all.new.hints
-          (same_memory c.open.new.literals c.args.literals.now c.args.hints.now c.args.hints.now c.open.auto.literals refl) c.in-Ok.ensures.memory c.ask-all.ensures.memory;
+      memory = leaves_from k (memory_of c.open.new.literals c.args.hints.now) s.steps (length rs) c.open.new.literals (standing (pos 0) (length c.args.literals.now) []) c.args.hints.now c.ask_all.new.literals c.ask_all.new.hints
+          (same_memory c.open.new.literals c.args.literals.now c.args.hints.now c.args.hints.now c.open.auto.literals refl) c.in-Ok.ensures.memory c.ask_all.ensures.memory;
       sound = tt;
-      complete = complete q a k m m' s s' rs rs' (length rs) c.ask-all.auto.replies (Err (Unclosed c.in-Err-close.still.place)) w;
+      complete = complete q a k m m' s s' rs rs' (length rs) c.ask_all.auto.replies (Err (Unclosed c.in-Err-close.still.place)) w;
     }
 
 pub returns-in-Err : goal.returns-in-Err
