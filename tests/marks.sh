@@ -6,9 +6,15 @@ set -u
 cd "$(dirname "$0")/.." || exit 2
 work=$(mktemp -d) || exit 2
 trap 'rm -rf "$work"' EXIT
-mkdir "$work/marked"
-cp -r crates/clauses/src "$work/marked/src"
-echo 'pub mod marks;' >> "$work/marked/src/lib.rt"
+# A repository of its own, with the real crates and one module more.
+git init -q "$work" && mkdir "$work/crates" && printf 'text:\nclauses: text\n' > "$work/crates.txt" || exit 2
+for crate in text clauses; do
+    mkdir "$work/crates/$crate"
+    for part in src specs proofs; do
+        cp -r "crates/$crate/$part" "$work/crates/$crate/$part" || exit 2
+    done
+done
+echo 'pub mod marks;' >> "$work/crates/clauses/src/lib.rt"
 failed=0
 
 # try NAME EXPECTED: the function body comes on standard input. EXPECTED is the error's name, or 'none'.
@@ -20,13 +26,12 @@ try() {
         echo 'pub fn follows<B: ClauseBase>(base: &mut B, clause: &[i32]) -> Result<bool, BaseFault> {'
         cat
         echo '}'
-    } > "$work/marked/src/marks.rt"
-    # No specs are beside the sources, so what passes the front end ends at the first `ghost use`; the front
-    # end's own errors have a name in brackets.
-    rt check "$work/marked" > "$work/out" 2>&1
+    } > "$work/crates/clauses/src/marks.rt"
+    (cd "$work/crates/clauses" && rt check --only marks::follows) > "$work/out" 2>&1
     found=$(sed -n 's/.*src\/marks\.rt:.*error\[\([a-z0-9-]*\)\].*/\1/p' "$work/out" | sort -u | tr '\n' ' ')
     others=$(grep -v 'src/marks\.rt' "$work/out" | grep -c 'error\[')
-    if [ -z "$found" ] && grep -q 'ghost use' "$work/out"; then
+    # What passes the front end goes on to the prover.
+    if [ -z "$found" ] && grep -q '^only=1 proved=1' "$work/out"; then
         found='none '
     fi
     if [ "$found" = "$2 " ] && [ "$others" = 0 ]; then
