@@ -1,8 +1,7 @@
 -- One line of an answer.
-use Rattle.std.proofs.Common.{◌≡◌, ℕ, ◌+◌, ◌<◌, ◌≤◌, Bool, true, false, cond, eqb, ltb, leb, List, length, get_or, is_some, Some, None, Ok, Err, Option, Result, sym, refl, ap, ◌∙◌, arith, MatchOption}
+use Rattle.std.proofs.Common.{◌≡◌, ℕ, ◌+◌, ◌<◌, ◌≤◌, Bool, false, cond, eqb, ltb, leb, List, length, get_or, is_some, Some, None, Ok, Err, Option, Result, refl, ap, ◌∙◌, arith}
 use Rattle.std.proofs.lemmas.List.{get_or_past}
 use Rattle.std.proofs.lemmas.Bool.{le-ltb}
-use Rattle.std.specs.Option.{option_map}
 use Rattle.text.specs.Pieces.{property}
 use Rattle.problem.specs.AnswerCalls.{draft_in, answering_of}
 use Rattle.problem.specs.Answers.{Answering, in_answer, drafted, next_begun, settled_at, step_answer}

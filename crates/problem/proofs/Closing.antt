@@ -1,16 +1,16 @@
 -- The end of a stanza.
-use Rattle.std.proofs.Common.{◌≡◌, ℕ, ◌+◌, ◌<◌, ◌≤◌, Bool, true, false, cond, ltb, ◌⊎◌, List, [], ◌∷◌, ◌++◌, map, length, IfSome, IfOk, Some, None, Ok, Err, Option, Result, unwrap_or, sym, refl, ap, ◌∙◌, subst, inl, inr, arith}
+use Rattle.std.proofs.Common.{◌≡◌, ℕ, ◌≤◌, true, false, ltb, ◌⊎◌, List, [], map, length, IfSome, IfOk, Some, None, Ok, Err, Option, Result, unwrap_or, sym, refl, ap, ◌∙◌, subst, inl, inr, arith}
 use Rattle.std.proofs.ByRecursion.{All-push}
 use Rattle.std.proofs.lemmas.List.{map_push, length-map, length_push}
 use Rattle.std.proofs.lemmas.Bool.{lt-ltb, le-ltb}
 use Rattle.std.specs.Option.{option_map}
 use Rattle.text.specs.Lists.{Each}
-use Rattle.problem.specs.Drafts.{draft_of, sought_of, then, DraftOk, WantedOk}
+use Rattle.problem.specs.Drafts.{draft_of, DraftOk}
 use Rattle.problem.specs.Growth.{ok_mapped}
 use Rattle.problem.specs.Meaning.{list_of, conjuncts_of}
-use Rattle.problem.specs.Reading.{State, Given, between, in_package, filed, closed_at, closed}
+use Rattle.problem.specs.Reading.{filed, closed}
 use Rattle.problem.specs.Rows.{PackageOk, Spanned}
-use Rattle.problem.specs.Sections.{place_of, given_of, state_of, row_of, Files, SectionOk, Sound}
+use Rattle.problem.specs.Sections.{given_of, state_of, row_of, Files, SectionOk, Sound}
 use Rattle.problem.specs.declared.draft.Draft.{Draft}
 use Rattle.problem.specs.declared.fault.ProblemFault.{ProblemFault}
 use Rattle.problem.specs.declared.fault.ProblemFault.TheVariants.{TooMany}
@@ -19,7 +19,6 @@ use Rattle.problem.specs.declared.rows.PackageRow.{PackageRow}
 use Rattle.problem.specs.declared.rows.Span.{Span}
 use Rattle.problem.specs.declared.section.Progress.{Progress}
 use Rattle.problem.specs.declared.section.Section.TheVariants.{Between, Package}
-use Rattle.problem.specs.declared.wanted.Wanted.{Wanted}
 
 abbrev no_span : Span
 no_span = record { first = 0; len = 0 }

@@ -1,16 +1,13 @@
 -- The end of a problem document.
-use Rattle.std.proofs.Common.{◌≡◌, ℕ, min, List, [], ◌∷◌, map, length, Some, None, Ok, Err, Option, Result, unwrap_or, sym, refl, ap, ◌∙◌}
-use Rattle.std.specs.Option.{option_map}
+use Rattle.std.proofs.Common.{◌≡◌, ℕ, List, [], ◌∷◌, map, Some, None, Ok, Err, sym, refl, ap, ◌∙◌}
 use Rattle.text.specs.Doc.{Doc}
 use Rattle.text.specs.Lists.{each}
-use Rattle.problem.specs.Cudf.{Problem}
 use Rattle.problem.specs.Drafts.{sought_of}
-use Rattle.problem.specs.Meaning.{package_of, list_of}
-use Rattle.problem.specs.Reading.{Limits, State, start, run, closed, distinct_only, repeated, read_doc}
+use Rattle.problem.specs.Meaning.{package_of}
+use Rattle.problem.specs.Reading.{Limits, start, run, closed, distinct_only, read_doc}
 use Rattle.problem.specs.Reads.{problem_in}
 use Rattle.problem.specs.Repeats.{repeated_in}
 use Rattle.problem.specs.Sections.{given_of, state_of}
-use Rattle.problem.specs.declared.fault.ProblemFault.{ProblemFault}
 use Rattle.problem.specs.declared.fault.ProblemFault.TheVariants.{Twice}
 use Rattle.problem.specs.declared.rows.ConstraintRow.{ConstraintRow}
 use Rattle.problem.specs.declared.rows.PackageRow.{PackageRow}

@@ -1,5 +1,5 @@
 -- A stanza over one line: what was read of it before stays as it was.
-use Rattle.std.proofs.Common.{◌≡◌, ℕ, ◌+◌, ◌-◌, ◌≤◌, Bool, true, false, List, length, take, drop, is_some, IfSome, IfOk, Some, None, Ok, Err, Option, Result, sym, refl, ap, ◌∙◌, subst, arith}
+use Rattle.std.proofs.Common.{◌≡◌, ℕ, ◌+◌, ◌-◌, ◌≤◌, true, false, List, length, take, drop, is_some, IfSome, IfOk, Some, None, Ok, Err, Option, Result, sym, refl, ap, ◌∙◌, arith}
 use Rattle.std.proofs.lemmas.List.{take-take, drop-take}
 use Rattle.std.specs.Option.{option_map}
 use Rattle.text.specs.Lists.{each}
@@ -7,8 +7,8 @@ use Rattle.text.specs.Rows.{items}
 use Rattle.text.specs.declared.rows.Rows.{Rows}
 use Rattle.problem.specs.ConstraintLists.{once, listed, conjoined, constraint_list, conjunct_list}
 use Rattle.problem.specs.Cudf.{Constraint}
-use Rattle.problem.specs.Drafts.{Drafted, Sought, draft_of, draft_at, sought_of, sought_at, then, extended_by, requested_by, DraftOk, WantedOk}
-use Rattle.problem.specs.Growth.{ok_mapped, Grown, SpanOf, list_at, conjuncts_at}
+use Rattle.problem.specs.Drafts.{Drafted, Sought, draft_at, sought_of, sought_at, then, extended_by, requested_by, DraftOk, WantedOk}
+use Rattle.problem.specs.Growth.{ok_mapped, Grown, SpanOf}
 use Rattle.problem.specs.Heads.{Begun, head_of, versioned, marked, HeadOk}
 use Rattle.problem.specs.Keys.{truth}
 use Rattle.problem.specs.Meaning.{list_of, conjuncts_of, conjuncts, constraint_of}

@@ -1,9 +1,9 @@
 -- Rows of constraints that grow.
-use Rattle.std.proofs.Common.{◌≡◌, ℕ, ◌≤◌, min, List, [], ◌∷◌, ◌++◌, length, take, Ok, Err, Result, sym, refl, ap, ◌∙◌, subst, arith}
+use Rattle.std.proofs.Common.{◌≡◌, ℕ, ◌≤◌, min, List, [], ◌∷◌, length, take, Ok, Err, Result, sym, refl, ap, ◌∙◌, subst, arith}
 use Rattle.std.proofs.ByRecursion.{All-push}
 use Rattle.std.proofs.lemmas.List.{take_all, take-take, take_at, length-take, length_push}
 use Rattle.text.specs.Lists.{Each}
-use Rattle.text.specs.Rows.{items, room, Same, Pushes}
+use Rattle.text.specs.Rows.{items, Same, Pushes}
 use Rattle.text.specs.declared.rows.Rows.{Rows}
 use Rattle.problem.specs.ConstraintLists.{limit_of}
 use Rattle.problem.specs.Growth.{Grown}

@@ -1,12 +1,12 @@
 -- One line of a problem document.
-use Rattle.std.proofs.Common.{◌≡◌, ℕ, ◌≤◌, Bool, true, false, cond, not, eqb, ltb, List, [], ◌∷◌, map, length, take, IfSome, Some, None, Ok, Err, Option, Result, sym, refl, ap, ◌∙◌, subst, arith}
+use Rattle.std.proofs.Common.{◌≡◌, ℕ, ◌≤◌, Bool, false, not, eqb, ltb, List, [], ◌∷◌, map, length, take, IfSome, Some, None, Ok, Err, Option, Result, sym, refl, ap, ◌∙◌, arith}
 use Rattle.std.proofs.lemmas.List.{length-map}
 use Rattle.std.specs.Option.{option_map}
 use Rattle.text.specs.Lists.{Each}
 use Rattle.text.specs.Pieces.{property}
 use Rattle.problem.specs.Drafts.{Sought, sought_of, then, WantedOk}
 use Rattle.problem.specs.Growth.{ok_mapped}
-use Rattle.problem.specs.Reading.{Limits, Place, between, State, Given, opened, placed, moved, taken, step}
+use Rattle.problem.specs.Reading.{Limits, Place, State, opened, placed, moved, step}
 use Rattle.problem.specs.Rows.{PackageOk}
 use Rattle.problem.specs.Sections.{place_of, place_at, given_of, state_of, SectionOk, Sound}
 use Rattle.problem.specs.declared.fault.ProblemFault.{ProblemFault}
@@ -17,7 +17,6 @@ use Rattle.problem.specs.declared.section.Section.{Section}
 use Rattle.problem.specs.declared.section.Section.TheVariants.{Between}
 use Rattle.problem.specs.declared.wanted.Wanted.{Wanted}
 use Rattle.problem.proofs.Drafting.{list_stays, conjuncts_stay, wanted_stays, spanned_more}
-use Rattle.problem.proofs.Growing.{front_short}
 
 pub begun_placed : (text : List ℕ) (cs : List ConstraintRow) (limit n : ℕ) (full : Bool) (q : Option Sought) (p : List ℕ × List ℕ) (s : Section) (r : Result Section ProblemFault) → s ≡ Between → ok_mapped (place_of text cs) r ≡ opened n full q p → ok_mapped (place_at text cs) r ≡ placed limit n full q (length cs) p (place_of text cs s)
 begun_placed text cs limit n full q p s r e h = at r ∙ ap (λ x. then x (λ y. Ok (y, length cs))) h ∙ rw e refl

@@ -1,10 +1,10 @@
 -- Rows put one after the other are the lists that the pieces say.
-use Rattle.std.proofs.Common.{◌≡◌, ℕ, suc, ◌+◌, ◌-◌, ◌<◌, ◌≤◌, Bool, true, false, cond, eqb, ltb, leb, ◌⊎◌, List, [], ◌∷◌, ◌++◌, map, length, take, drop, IfOk, Some, None, Ok, Err, Option, Result, sym, refl, ap, ◌∙◌, subst, inl, inr, arith}
-use Rattle.std.proofs.lemmas.List.{append_assoc, append-nil, length_push, length-append, length-map, length-drop, map-append, drop-map, drop_at, take_rest}
+use Rattle.std.proofs.Common.{◌≡◌, ℕ, suc, ◌+◌, ◌-◌, ◌<◌, ◌≤◌, Bool, true, false, cond, eqb, ltb, leb, List, [], ◌∷◌, ◌++◌, map, length, drop, IfOk, Some, None, Ok, Option, sym, refl, ap, ◌∙◌, subst, inl, inr, arith}
+use Rattle.std.proofs.lemmas.List.{append_assoc, append-nil, length_push, length-append, length-map, length-drop, drop-map, drop_at, take_rest}
 use Rattle.std.proofs.lemmas.Bool.{lt-ltb, le-ltb, le-leb, lt-leb, cases_lt}
 use Rattle.text.specs.Lists.{each, each_all, Each}
 use Rattle.text.specs.Pieces.{pieces}
-use Rattle.text.specs.Rows.{items, Same}
+use Rattle.text.specs.Rows.{items}
 use Rattle.text.specs.declared.rows.Rows.{Rows}
 use Rattle.text.proofs.Cuts.{pieces_some}
 use Rattle.problem.specs.Cudf.{Constraint}
@@ -12,8 +12,6 @@ use Rattle.problem.specs.ConstraintLists.{Asked, Kept, asked_of, kept, limit_of,
 use Rattle.problem.specs.Growth.{ok_mapped, list_at, conjuncts_at, settled, SpanOf, Grown}
 use Rattle.problem.specs.Meaning.{constraint_of, list_of, conjuncts_of, conjuncts, front}
 use Rattle.problem.specs.Words.{constraint}
-use Rattle.problem.specs.declared.fault.ProblemFault.{ProblemFault}
-use Rattle.problem.specs.declared.fault.ProblemFault.TheVariants.{Value, TooMany}
 use Rattle.problem.specs.declared.rows.ConstraintRow.{ConstraintRow}
 use Rattle.problem.specs.declared.rows.Span.{Span}
 use Rattle.problem.proofs.Growing.{front_short}

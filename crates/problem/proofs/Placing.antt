@@ -1,13 +1,12 @@
 -- The ways through the readers of constraints.
-use Rattle.std.proofs.Common.{◌≡◌, ℕ, ◌+◌, ◌-◌, ◌<◌, ◌≤◌, Bool, true, false, cond, eqb, ◌⊎◌, List, length, take, drop, IfSome, Some, None, Option, sym, refl, ap, ◌∙◌, arith}
+use Rattle.std.proofs.Common.{◌≡◌, ℕ, ◌-◌, ◌<◌, ◌≤◌, Bool, true, false, cond, eqb, ◌⊎◌, List, length, take, drop, IfSome, Some, None, Option, sym, refl, ap, ◌∙◌, arith}
 use Rattle.std.proofs.lemmas.List.{take_rest}
 use Rattle.std.proofs.lemmas.Bool.Decides.{nat_tests}
 use Rattle.std.specs.Option.{option_map}
 use Rattle.text.proofs.Clamps.{word_front, word_length}
-use Rattle.text.specs.Spaces.{unled, unended, trimmed}
+use Rattle.text.specs.Spaces.{unled, trimmed}
 use Rattle.text.specs.Word.{word_in, Inside}
 use Rattle.text.specs.declared.word.Word.{Word}
-use Rattle.problem.specs.Cudf.{Constraint}
 use Rattle.problem.specs.Meaning.{constraint_of}
 use Rattle.problem.specs.Placed.{asks, compared_by, related_to, Reads}
 use Rattle.problem.specs.Rows.{ConstraintOk}

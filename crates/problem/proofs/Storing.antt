@@ -1,5 +1,5 @@
 -- One turn of a loop that puts constraints into rows.
-use Rattle.std.proofs.Common.{◌≡◌, ℕ, ◌<◌, ◌≤◌, min, Bool, true, false, cond, ltb, List, [], ◌∷◌, ◌++◌, map, length, is_err, Some, None, Ok, Err, MatchBool, Option, Result, sym, refl, ap, ◌∙◌, arith}
+use Rattle.std.proofs.Common.{◌≡◌, ℕ, min, Bool, true, false, cond, ltb, List, [], ◌∷◌, map, length, is_err, Some, None, Ok, Err, MatchBool, Option, Result, sym, refl, ap, ◌∙◌, arith}
 use Rattle.std.proofs.lemmas.List.{map_push, length-map}
 use Rattle.std.proofs.lemmas.Bool.{lt-ltb, le-ltb}
 use Rattle.text.specs.Left.{left, Takes}
@@ -9,7 +9,7 @@ use Rattle.text.specs.Word.{word_in}
 use Rattle.text.specs.declared.parts.Parts.{Parts}
 use Rattle.text.specs.declared.rows.Rows.{Rows}
 use Rattle.text.specs.declared.word.Word.{Word}
-use Rattle.problem.specs.ConstraintLists.{Asked, Kept, asked_of, kept, limit_of, put, is_nil, stored, stored_all, Stores, then}
+use Rattle.problem.specs.ConstraintLists.{Kept, asked_of, kept, limit_of, put, is_nil, stored, stored_all, Stores, then}
 use Rattle.problem.proofs.Growing.{grown_push, grown_then}
 use Rattle.problem.specs.Growth.{Grown}
 use Rattle.problem.specs.Meaning.{constraint_of}

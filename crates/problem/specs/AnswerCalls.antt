@@ -3,7 +3,7 @@
 -- answering_of: where the reading stands, in words
 -- table_after: the table, if the call was not refused
 -- Answers: what reading an answer answers and leaves in its table
-use Rattle.std.specs.Prelude.{◌≡◌, ℕ, List, length, replicate, Ok, Err, Option, Result}
+use Rattle.std.specs.Prelude.{◌≡◌, ℕ, List, replicate, Ok, Err, Option, Result}
 use Rattle.std.specs.Option.{option_map}
 use Rattle.problem.specs.Answers.{Answering, read_answer, failed, given}
 use Rattle.problem.specs.Cudf.{Package}

@@ -2,10 +2,10 @@
 -- Answered: no plan is claimed to exist, or what is said of each stanza
 -- stanza_in: the place of the package with a name and version
 -- Answering: the stanza whose lines are being read, how many were begun, and what was said so far
--- begunAnswer, extended_answer: after the first line of a stanza, after a further one
+-- begun_by, extended_answer: after the first line of a stanza, after a further one
 -- settled_at: what a stanza that was read to its end says; closed_answer: at its end; step_answer: over one line
 -- run_answer: over all lines; read_answer: the answer of a text, or its first fault
-use Rattle.std.specs.Prelude.{ℕ, suc, ◌+◌, Bool, true, false, cond, ◌&&◌, List, [], ◌∷◌, ◌++◌, length, replicate, Some, None, Ok, Err, codes, Option, Result, ◌==◌, nat_le, nat_lt, slice_index_or, slice_set}
+use Rattle.std.specs.Prelude.{ℕ, ◌+◌, Bool, false, cond, ◌&&◌, List, [], ◌∷◌, ◌++◌, length, replicate, Some, None, Ok, Err, codes, Option, Result, ◌==◌, nat_le, nat_lt, slice_index_or, slice_set}
 use Rattle.std.specs.Option.{option_map, unwrap_or}
 use Rattle.std.specs.Str.{bytes_eq}
 use Rattle.text.specs.Doc.{Doc, end, broken, line, doc}

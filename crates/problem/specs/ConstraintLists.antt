@@ -8,12 +8,11 @@
 -- once: what comes of a property, unless its stanza has it already
 -- listed, conjoined: what a list comes to where so many constraints are there already: its members and how many are there then, or a fault
 use Rattle.std.specs.Prelude.{◌≡◌, ℕ, ◌+◌, min, Bool, true, false, cond, List, [], ◌∷◌, ◌++◌, map, length, Some, None, Ok, Err, Option, Result, ◌==◌, nat_le, nat_lt}
-use Rattle.text.specs.Lists.{each}
 use Rattle.text.specs.Pieces.{pieces}
 use Rattle.text.specs.Rows.{items, room}
 use Rattle.text.specs.declared.rows.Rows.{Rows}
 use Rattle.problem.specs.Cudf.{Constraint}
-use Rattle.problem.specs.Meaning.{constraint_of, front}
+use Rattle.problem.specs.Meaning.{constraint_of}
 use Rattle.problem.specs.Words.{constraint}
 use Rattle.problem.specs.declared.fault.ProblemFault.{ProblemFault}
 use Rattle.problem.specs.declared.fault.ProblemFault.TheVariants.{Property, Value, TooMany}

@@ -3,7 +3,7 @@
 -- draft_of, sought_of: the same of the code's values; draft_at, sought_at: with how many constraints there are
 -- extended, requested: after a further line
 -- DraftOk, WantedOk: the runs lie among so many rows
-use Rattle.std.specs.Prelude.{ℕ, Bool, List, length, IfSome, Some, None, Ok, Err, Option, Result}
+use Rattle.std.specs.Prelude.{ℕ, List, length, IfSome, Some, None, Ok, Err, Option, Result}
 use Rattle.std.specs.Option.{option_map}
 use Rattle.problem.specs.ConstraintLists.{once, constraint_list, conjunct_list, listed, conjoined}
 use Rattle.problem.specs.Cudf.{Constraint}

@@ -5,7 +5,6 @@ use Rattle.std.specs.Prelude.{◌≡◌, ℕ, Bool, cond, List, length, drop, So
 use Rattle.text.specs.Spaces.{unled}
 use Rattle.text.specs.Word.{word_in}
 use Rattle.text.specs.declared.word.Word.{Word}
-use Rattle.problem.specs.ConstraintLists.{asked_of}
 use Rattle.problem.specs.Meaning.{constraint_of}
 use Rattle.problem.specs.Rows.{ConstraintOk}
 use Rattle.problem.specs.Words.{operator, version, constraint}

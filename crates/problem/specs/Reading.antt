@@ -4,16 +4,16 @@
 -- placed: the place after a line that has a property, and how many constraints there are then; step: over one line
 -- repeated: the line of the first stanza whose name and version an earlier one has
 -- concluded: at the end of the text; run: over all lines; read_problem: the problem of a text, or its first fault
-use Rattle.std.specs.Prelude.{ℕ, ◌+◌, min, Bool, false, cond, not, ◌&&◌, ◌||◌, List, [], ◌∷◌, ◌++◌, length, Some, None, Ok, Err, Option, Result, ◌==◌, nat_lt}
-use Rattle.std.specs.Option.{option_map, unwrap_or}
+use Rattle.std.specs.Prelude.{ℕ, ◌+◌, min, Bool, false, cond, not, ◌&&◌, List, [], ◌∷◌, ◌++◌, length, Some, None, Ok, Err, Option, Result, ◌==◌, nat_lt}
+use Rattle.std.specs.Option.{unwrap_or}
 use Rattle.std.specs.Str.{bytes_eq}
 use Rattle.text.specs.Doc.{Doc, end, broken, line, doc, count}
 use Rattle.text.specs.Lists.{each, some}
 use Rattle.text.specs.Pieces.{property}
 use Rattle.text.specs.declared.fault.TextFault.TheVariants.{Form}
-use Rattle.problem.specs.Cudf.{Constraint, Package, Problem}
+use Rattle.problem.specs.Cudf.{Package, Problem}
 use Rattle.problem.specs.Drafts.{Drafted, Sought, then, extended, requested}
-use Rattle.problem.specs.Heads.{Begun, begun}
+use Rattle.problem.specs.Heads.{begun}
 use Rattle.problem.specs.Keys.{first_key}
 use Rattle.problem.specs.declared.fault.ProblemFault.{ProblemFault}
 use Rattle.problem.specs.declared.fault.ProblemFault.TheVariants.{Text, Property, Twice, TooMany}

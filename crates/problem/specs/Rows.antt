@@ -3,7 +3,7 @@
 -- span_in: the rows of a run; Spanned: the run lies among so many rows
 -- same_stanza: two rows with the same name and version; stands_twice: whether some two rows are so
 -- PackageOk, ConstraintOk: what holds of each row of a problem: its name lies in the document, its numbers are within the limits, its runs among the rows
-use Rattle.std.specs.Prelude.{◌≡◌, ℕ, ◌+◌, ◌≤◌, Bool, false, ◌&&◌, ◌||◌, List, [], ◌∷◌, take, drop, ◌==◌}
+use Rattle.std.specs.Prelude.{ℕ, ◌+◌, ◌≤◌, Bool, false, ◌&&◌, ◌||◌, List, [], ◌∷◌, take, drop, ◌==◌}
 use Rattle.std.specs.Str.{bytes_eq}
 use Rattle.text.specs.Lists.{some}
 use Rattle.text.specs.Word.{word_in, Inside}

@@ -1,4 +1,4 @@
-use Rattle.std.proofs.Common.{◌≡◌, map, sym, ap, ◌∙◌, rules}
+use Rattle.std.proofs.Common.{map, sym, ap, ◌∙◌, rules}
 use Rattle.problem.specs.Answers.{stanza_in}
 use Rattle.problem.specs.Meaning.{constraints_in, package_of}
 use Rattle.problem.specs.Rows.{no_package}

@@ -1,6 +1,6 @@
-use Rattle.std.proofs.Common.{◌≡◌, ◌≤◌, true, false, eqb, leb, length, IfSome, IfOk, Some, None, Err, sym, refl, ap, ◌∙◌, subst, arith, rules}
-use Rattle.std.proofs.lemmas.Result.{err_from_is_err_and, IfOk-from_err}
-use Rattle.std.proofs.lemmas.Bool.{eq-eqb, ne_eqb}
+use Rattle.std.proofs.Common.{◌≡◌, ◌≤◌, false, eqb, length, IfSome, IfOk, None, Err, sym, refl, ap, ◌∙◌, subst}
+use Rattle.std.proofs.lemmas.Result.{err_from_is_err_and}
+use Rattle.std.proofs.lemmas.Bool.{ne_eqb}
 use Rattle.text.proofs.Clamps.{word_length}
 use Rattle.text.specs.Left.{shown}
 use Rattle.text.specs.Pieces.{property}

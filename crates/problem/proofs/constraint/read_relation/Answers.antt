@@ -1,4 +1,4 @@
-use Rattle.std.proofs.Common.{sym, refl, ap, ◌∙◌, subst, rules}
+use Rattle.std.proofs.Common.{refl, ◌∙◌, rules}
 use Rattle.std.proofs.lemmas.Option.{MatchOption-from_none}
 use Rattle.problem.proofs.Placing.{related_at}
 use Rattle.problem.proofs.constraint.read_relation.Goals as goal

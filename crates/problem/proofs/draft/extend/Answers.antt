@@ -1,6 +1,5 @@
 use Rattle.std.proofs.Common.{◌≡◌, length, IfOk, Some, sym, ap, ◌∙◌, subst, rules}
 use Rattle.problem.specs.declared.keys.PackageKey.TheVariants.{Version, Depends, Conflicts, Installed}
-use Rattle.text.specs.Left.{shown}
 use Rattle.text.specs.Rows.{items}
 use Rattle.text.specs.Word.{word_in}
 use Rattle.problem.specs.ConstraintLists.{limit_of}

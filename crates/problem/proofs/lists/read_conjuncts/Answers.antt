@@ -1,4 +1,4 @@
-use Rattle.std.proofs.Common.{false, sym, refl, ap, ◌∙◌, rules}
+use Rattle.std.proofs.Common.{false, sym, refl, ap, ◌∙◌}
 use Rattle.problem.proofs.Growing.{grown_none, grown_then}
 use Rattle.problem.proofs.Storing.{conjuncts_turn, conjuncts_bad, stores_none}
 use Rattle.problem.specs.ConstraintLists.{kept, stored_all, limit_of}

@@ -1,4 +1,4 @@
-use Rattle.std.proofs.Common.{sym, refl, ◌∙◌, rules}
+use Rattle.std.proofs.Common.{sym, refl, ◌∙◌}
 use Rattle.problem.proofs.Growing.{grown_none}
 use Rattle.problem.proofs.Storing.{turn_kept, lost_err, lost_ok}
 use Rattle.problem.proofs.lists.read_constraints.Goals as goal

@@ -1,7 +1,7 @@
 use Rattle.std.proofs.Common.{eqb, length, IfOk, sym, ap, ◌∙◌, subst, arith, rules}
 use Rattle.text.specs.Rows.{items}
 use Rattle.text.specs.Word.{word_in}
-use Rattle.problem.specs.Growth.{SpanOf, ok_mapped, list_at, conjuncts_at, settled}
+use Rattle.problem.specs.Growth.{SpanOf, ok_mapped, conjuncts_at, settled}
 use Rattle.problem.proofs.Growing.{grown_none, front_short}
 use Rattle.problem.proofs.Drafting.{once_some, once_none}
 use Rattle.problem.proofs.Listing.{conjuncts_read, conjuncts_empty, span_settled, span_empty}

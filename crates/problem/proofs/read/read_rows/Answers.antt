@@ -1,7 +1,7 @@
-use Rattle.std.proofs.Common.{◌≡◌, ◌≤◌, min, [], length, IfSome, None, Ok, sym, refl, ap, ◌∙◌, subst, arith, rules}
+use Rattle.std.proofs.Common.{◌≡◌, ◌≤◌, min, [], length, IfSome, None, sym, ap, ◌∙◌, subst, arith}
 use Rattle.text.specs.Doc.{doc}
 use Rattle.text.specs.Lists.{Each}
-use Rattle.text.specs.Rows.{items, room, Same}
+use Rattle.text.specs.Rows.{items, Same}
 use Rattle.text.specs.declared.rows.Rows.{Rows}
 use Rattle.problem.specs.ConstraintLists.{limit_of}
 use Rattle.problem.specs.Drafts.{WantedOk}

@@ -1,4 +1,4 @@
-use Rattle.std.proofs.Common.{◌≡◌, IfOk, sym, ap, ◌∙◌, subst, arith}
+use Rattle.std.proofs.Common.{IfOk, sym, ap, ◌∙◌, subst, arith}
 use Rattle.text.specs.Rows.{items}
 use Rattle.problem.specs.Growth.{ok_mapped}
 use Rattle.problem.specs.Sections.{state_of, package_limit, Sound}

@@ -1,8 +1,6 @@
-use Rattle.std.proofs.Common.{◌≡◌, ℕ, ◌<◌, ◌≤◌, length, get_or, take, sym, subst, arith}
+use Rattle.std.proofs.Common.{◌≡◌, ℕ, ◌<◌, length, get_or, take, sym, subst, arith}
 use Rattle.std.proofs.lemmas.List.{length-take-le}
-use Rattle.text.specs.Word.{Inside}
 use Rattle.problem.specs.Rows.{no_package, no_constraint, PackageOk, ConstraintOk, Spanned}
-use Rattle.problem.specs.Reads.{RowsOk}
 use Rattle.problem.proofs.Closing.{spanned_given}
 use Rattle.problem.proofs.Holding.{at_first}
 use Rattle.problem.proofs.view.Problem.make.Goals as goal
