@@ -6,7 +6,7 @@
 -- Guarded: a row is satisfied, or watches two places; Watchful: each row is guarded
 -- Watches: the row watches the place; Spotted: each entry has a place of its own, false or watched
 -- Enlisted, Visited: a row is on a list, watches two literals
-use Rattle.std.specs.Prelude.{◌≡◌, ℕ, ◌+◌, ◌-◌, ◌*◌, ◌<◌, ◌≤◌, Bool, true, false, T, ◌⊎◌, List, length, get_or, ℤ, pos, Some, None, Option, ◌≢◌, slice_index, slice_index_or}
+use Rattle.std.specs.Prelude.{◌≡◌, ℕ, ◌+◌, ◌-◌, ◌*◌, ◌<◌, ◌≤◌, Bool, true, false, T, ◌⊎◌, List, length, ℤ, pos, Some, None, Option, ◌≢◌, slice_index, slice_index_or}
 use Rattle.text.specs.Literals.{Clause}
 use Rattle.clauses.specs.Propagation.{value, is_false, satisfied, Below}
 use Rattle.clauses.specs.Cells.{values_of}
@@ -114,7 +114,7 @@ pub record Watch (s : Store) (x : Index) (xs : List (Option Bool)) (t : Trail) (
   pub good : (false_at xs (clause_at s k) p ≡ false) ⊎ (Waits t low (slice_index_or (clause_at s k) p (pos 0)) ⊎ Rest x k link)
 
 pub record Paired (s : Store) (x : Index) (w : List ℕ) (xs : List (Option Bool)) (t : Trail) (low link k : ℕ) : Type 0 where
-  pub apart : get_or w (2 * k) 0 ≡ slice_index w (2 * k + 1) → ⊥
+  pub apart : slice_index w (2 * k) ≢ slice_index w (2 * k + 1)
   pub first : Watch s x xs t low link k (slice_index w (2 * k))
   pub second : Watch s x xs t low link k (slice_index w (2 * k + 1))
 

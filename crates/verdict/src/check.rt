@@ -99,7 +99,7 @@ fn judge_files(
     constraints: &mut [ConstraintRow],
     table: &mut [Standing],
 ) -> Result<Option<Counts>, VerdictFault>
-    ensures { result ≡ judged (record { packages = length packages.entry.now; constraints = length constraints.old; table = length table.old }) problem.now answer.now certificate.now }
+    ensures { result ≡ judged (record { packages = length packages.old; constraints = length constraints.old; table = length table.old }) problem.now answer.now certificate.now }
 {
     check_lengths(problem, answer, certificate)?;
     judge(problem, answer, certificate, packages, constraints, table)
@@ -115,8 +115,8 @@ pub fn check(
     constraints: &mut [ConstraintRow],
     table: &mut [Standing],
 ) -> Option<Line>
-    ensures line { result ≡ line_of (judged (record { packages = length packages.entry.now; constraints = length constraints.old; table = length table.old }) problem.now answer.now certificate.now) }
-    ensures means { Means (record { packages = length packages.entry.now; constraints = length constraints.old; table = length table.old }) problem.now answer.now result }
+    ensures line { result ≡ line_of (judged (record { packages = length packages.old; constraints = length constraints.old; table = length table.old }) problem.now answer.now certificate.now) }
+    ensures means { Means (record { packages = length packages.old; constraints = length constraints.old; table = length table.old }) problem.now answer.now result }
     ensures packages { packages.new ≡ replicate (length packages.old) no_package }
     ensures constraints { constraints.new ≡ replicate (length constraints.old) no_constraint }
     ensures table { table.new ≡ replicate (length table.old) Unnamed }
