@@ -5,7 +5,7 @@ usage: python3 tools/respell.py        once, at the top of the repository, after
        python3 tools/respell.py --list prints each old name with its new one, and writes nothing
 
 Functions, fields and constructors go to snake case (howMany: how_many), types to upper camel case.
-In a lemma's name a dash stays where it joins two names that the lemma is about (each-each_all);
+In a lemma's name a dash stays where it joins two names that the lemma is about (howMany-keep: how_many-keep);
 a plain word is joined by an underscore (left-more: left_more).
 Names of src/, strings, and the goals that Rattle makes keep their spelling.
 """
