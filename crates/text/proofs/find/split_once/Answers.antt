@@ -3,10 +3,6 @@ use Rattle.text.specs.Pieces.{upto}
 use Rattle.text.proofs.Cuts.{part_cut}
 use Rattle.text.proofs.find.split_once.Goals as goal
 
-pub returns-in_err-n : goal.returns-in_err-n
-returns-in_err-n c =
-    rw (c.from_residual.ensures, ← c.clamped-part.ensures.same, ← c.bytes_of.ensures) c.in_err-n.ensures
-
 pub returns : goal.returns
 returns c =
     let e = c.in_ok-n.ensures.0 ∙ ap (upto c.args.mark) c.bytes_of.ensures in
