@@ -33,6 +33,7 @@ impl<'a> Parts<'a> {
     }
 
     /// Whether no piece is left.
+    #[tactic(auto, using(crate::proofs::Cuts::none_tells))]
     pub fn is_done(&self) -> bool
         ensures { MatchBool result (left self.now ≡ []) (left self.now ≢ []) }
     {
