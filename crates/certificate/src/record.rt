@@ -7,7 +7,8 @@ ghost use Rattle.certificate.specs.Reading.{Holds, memory_of, shape_in};
 
 use crate::found::Shape;
 use crate::memory::blank;
-use crate::words::{put_hints, put_literals};
+use crate::words::push_words;
+use text::rows::Rows;
 
 /// The most literals that a clause has.
 pub const LITERALS: u16 = 512;
@@ -77,8 +78,10 @@ fn put_addition(
         blank(literals, hints);
         return None;
     }
-    put_literals(clause, literals);
-    put_hints(chain, hints);
+    let mut rows = Rows::new(literals, 0);
+    push_words(clause, &mut rows);
+    let mut rows = Rows::new(hints, 0);
+    push_words(chain, &mut rows);
     Some(Shape::AddHinted(n, k))
 }
 

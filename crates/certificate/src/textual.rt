@@ -52,11 +52,10 @@ impl Source for TextSource<'_> {
             return Err(SourceFault::Form(u32::MAX));
         }
         let place = self.number + 1;
-        let n = index_of(bytes, LF);
-        if n == bytes.len() {
+        let Some(n) = index_of(bytes, LF) else {
             blank(literals, hints);
             return Err(SourceFault::Form(place));
-        }
+        };
         match read_line(&bytes[0..n], literals, hints) {
             Err(Unread::Form) => Err(SourceFault::Form(place)),
             Err(Unread::TooMany) => {
