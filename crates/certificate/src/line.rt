@@ -12,7 +12,6 @@ use crate::record::LITERALS;
 use text::digits::{decimal, signed};
 use text::parts::Parts;
 use text::rows::Rows;
-use text::same::same_bytes;
 
 /// The most digits that a number has.
 const DIGITS: usize = 7;
@@ -32,7 +31,7 @@ fn deleted_number(line: &[u8]) -> Option<u32>
     let mark = parts.next_piece()?;
     let number = parts.next_piece()?;
     let zero = parts.next_piece()?;
-    if parts.is_done() && same_bytes(mark, b"d") && same_bytes(zero, b"0") {
+    if parts.is_done() && mark == b"d".as_slice() && zero == b"0".as_slice() {
         decimal(number, DIGITS)
     } else {
         None
