@@ -60,6 +60,7 @@ impl Source for HintedSource<'_> {
         literals: &mut [i32],
         hints: &mut [u32],
     ) -> Result<Option<Found>, SourceFault> {
+        // Each way out makes the memory zero for itself: to do it first would write all of it twice for each step.
         let bytes = self.rest;
         if bytes.is_empty() {
             blank(literals, hints);

@@ -35,6 +35,7 @@ pub struct Record<'a> {
 }
 
 /// The record that bytes begin with.
+#[tactic(auto, using(crate::proofs::Records::addition_found, crate::proofs::Records::deletion_found))]
 pub fn first_record(bytes: &[u8]) -> Option<Record<'_>>
     ensures { option_map entry_of result ≡ entry bytes.now }
 {
@@ -98,6 +99,7 @@ fn addition(bytes: &[u8]) -> Option<Record<'_>>
 }
 
 /// The bytes of at most `most` numbers, after their count.
+#[tactic(auto, using(crate::proofs::Records::counted_cut))]
 fn counted_words(bytes: &[u8], most: u16) -> Option<Counted<'_>>
     ensures { option_map shown result ≡ counted most bytes.now }
 {

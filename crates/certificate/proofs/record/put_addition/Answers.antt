@@ -1,10 +1,8 @@
-use Rattle.std.proofs.Common.{length, Some, pos, w32, to_z, ap, ◌∙◌, arith, rules}
-use Rattle.text.specs.Lists.{each}
-use Rattle.text.proofs.Whole.{whole_at}
-use Rattle.certificate.specs.Hinted.{words, hinted_addition}
+use Rattle.std.proofs.Common.{length, Some, ap, ◌∙◌, arith}
+use Rattle.certificate.specs.Hinted.{hinted_addition}
 use Rattle.certificate.specs.Reading.{memory_of}
-use Rattle.certificate.proofs.FourBytes.{length-words, each_same}
-use Rattle.certificate.proofs.Kept.{kept_none, shape_kept, step_kept, words_in, words_out, words_shape}
+use Rattle.certificate.proofs.FourBytes.{length-words}
+use Rattle.certificate.proofs.Kept.{kept_none, shape_kept, words_in, words_out, words_shape}
 use Rattle.certificate.proofs.record.put_addition.Goals as goal
 
 pub returns-then-n-literals : goal.returns-then-n-literals
@@ -27,12 +25,3 @@ returns-clause-shape c =
     let k = memory_of c.args.literals.now c.args.hints.now in
     let fits = words_in k c.args.clause.now c.args.chain.now c.if-n-literals.false c.if-k-hints.false in
     ap Some (words_shape c.args.clause.now c.args.chain.now) ∙ shape_kept k (hinted_addition c.args.clause.now c.args.chain.now) fits
-
-pub returns-clause-memory : goal.returns-clause-memory
-returns-clause-memory c =
-    let k = memory_of c.args.literals.now c.args.hints.now in
-    let fits = words_in k c.args.clause.now c.args.chain.now c.if-n-literals.false c.if-k-hints.false in
-    let same = each_same (words c.args.chain.now) in
-    let m = whole_at c.push_words.new.rows (each (to_z w32) (words c.args.clause.now)) (length c.args.literals.now) (pos 0) (search rules) (search rules) (search rules) in
-    let n = whole_at c.push_words-2.new.rows (words c.args.chain.now) (length c.args.hints.now) 0 (search rules) (search rules) (search rules) in
-    step_kept k (hinted_addition c.args.clause.now c.args.chain.now) _ _ fits (search rules) (search rules)

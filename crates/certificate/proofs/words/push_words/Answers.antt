@@ -2,7 +2,7 @@ use Rattle.std.proofs.Common.{◌++◌, rules}
 use Rattle.text.specs.Lists.{each}
 use Rattle.text.specs.Rows.{items, room}
 use Rattle.certificate.specs.Hinted.{words}
-use Rattle.certificate.proofs.FourBytes.{words_more, words_all, words_fit, pushed}
+use Rattle.certificate.proofs.FourBytes.{words_more, words_fit, pushed}
 use Rattle.certificate.proofs.words.push_words.Goals as goal
 
 pub loop-rest-preserved : goal.loop-rest-preserved
@@ -15,7 +15,3 @@ loop-rest-preserved g c =
     let p = rw c.loop-rest.invariant.1.room at c.push.ensures.pushes in
     let e = pushed n xs (items c.push.new.self) c.of_bytes-word.result c.push.result l p in
     (words_more f c.loop-rest.rest.now xs (items c.push.new.self) (ys ++ each f (words c.args.bytes.now)) c.of_bytes-word.result (search rules) c.of_bytes-word.ensures e c.loop-rest.invariant.0, search rules)
-
-pub returns : goal.returns
-returns g c =
-    record { items = words_all g.T.Word.meant c.loop-rest.rest.now (items c.loop-rest.rows) (items c.args.rows.now ++ each g.T.Word.meant (words c.args.bytes.now)) (search rules) c.loop-rest.invariant.0; same = c.loop-rest.invariant.1 }
