@@ -1,7 +1,8 @@
 -- A loop over numbers of four bytes each.
-use Rattle.std.proofs.Common.{◌≡◌, ℕ, suc, ◌+◌, ◌-◌, ◌/◌, ◌<◌, ◌≤◌, List, [], ◌∷◌, ◌++◌, length, take, drop, sym, refl, ap, ◌∙◌, arith, length-append}
+use Rattle.std.proofs.Common.{◌≡◌, ℕ, suc, ◌+◌, ◌-◌, ◌/◌, ◌<◌, ◌≤◌, List, [], ◌∷◌, ◌++◌, length, take, drop, Ok, Err, Result, sym, refl, ap, ◌∙◌, arith, length-append}
 use Rattle.std.proofs.lemmas.List.{take_rest, append_assoc, append-nil}
 use Rattle.text.specs.Lists.{each}
+use Rattle.text.specs.Rows.{Pushes}
 use Rattle.certificate.specs.Hinted.{word_in, words}
 
 words_first : (bs : List ℕ) → 4 ≤ length bs → words bs ≡ word_in bs ∷ words (drop 4 bs)
@@ -31,12 +32,16 @@ words_more f bs xs ys all w l e p h =
 pub words_all : {T : Type 0} (f : ℕ → T) (bs : List ℕ) (xs all : List T) → length bs < 4 → xs ++ each f (words bs) ≡ all → xs ≡ all
 words_all f bs xs all l h = sym (append-nil xs) ∙ (rw (words_none bs l) at h)
 
--- a list with no place left has all of them
-pub words_fit : {T : Type 0} (f : ℕ → T) (bs cs : List ℕ) (xs ys : List T) (n : ℕ) → 4 ≤ length bs → length xs ≡ n → length ys + length (words cs) ≤ n → xs ++ each f (words bs) ≡ ys ++ each f (words cs) → ⊥
-words_fit f bs cs xs ys n l e m h =
+-- each of them has a place
+pub words_fit : {T : Type 0} (f : ℕ → T) (bs cs : List ℕ) (xs ys : List T) (n : ℕ) → 4 ≤ length bs → length ys + length (words cs) ≤ n → xs ++ each f (words bs) ≡ ys ++ each f (words cs) → length xs < n
+words_fit f bs cs xs ys n l m h =
     let q : xs ++ each f (word_in bs ∷ words (drop 4 bs)) ≡ ys ++ each f (words cs) = rw (words_first bs l) at h in
     let k = ap length q in
-    omega (arith, length-append xs (each f (word_in bs ∷ words (drop 4 bs))), length-append ys (each f (words cs)), length-each f (words cs), k)
+    omega (arith, length-append xs (each f (word_in bs ∷ words (drop 4 bs))), length-append ys (each f (words cs)), length-each f (words cs), length-each f (words (drop 4 bs)), k)
+
+pub pushed : {T U F : Type 0} (n : ℕ) (xs ys : List T) (x : T) (o : Result U F) → length xs < n → Pushes n xs x ys o → ys ≡ xs ++ x ∷ []
+pushed n xs ys x (Ok u) l p = p.1
+pushed n xs ys x (Err e) l p = absurd (omega (arith, p.0))
 
 pub each_same : (xs : List ℕ) → each (λ n. n) xs ≡ xs
 each_same [] = refl
