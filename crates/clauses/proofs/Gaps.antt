@@ -1,12 +1,12 @@
 -- A store whose gaps are being closed.
-use Rattle.std.proofs.Common.{◌≡◌, ℕ, ◌+◌, ◌-◌, ◌<◌, ◌≤◌, true, false, ◌⊎◌, List, [], ◌∷◌, ◌++◌, length, get_or, take, drop, set, ℤ, pos, sym, refl, ap, ◌∙◌, subst, inl, inr, append-nil, arith}
-use Rattle.std.proofs.lemmas.List.{length-set, length-take-le, length-drop, length_push, take_more, take-take, take-append-drop, drop-take, drop-set-lt, drop-drop, get_or-take, get_or-drop}
+use Rattle.std.proofs.Common.{◌≡◌, ℕ, ◌+◌, ◌-◌, ◌<◌, ◌≤◌, true, false, ◌⊎◌, List, [], ◌∷◌, ◌++◌, length, get_or, take, drop, set, ℤ, sym, refl, ap, ◌∙◌, inl, inr, append-nil, arith}
+use Rattle.std.proofs.lemmas.List.{length-set, length-take-le, length-drop, length_push, take_more, drop-set-lt, drop-drop, get_or-drop}
 use Rattle.std.proofs.lemmas.Bool.{cases_lt}
 use Rattle.text.specs.Literals.{Clause}
 use Rattle.clauses.specs.ClauseBase.{literal_count}
 use Rattle.clauses.specs.Rows.{no_row, row_at, span, held_in, Under}
 use Rattle.clauses.specs.Stored.{held, Sound}
-use Rattle.clauses.specs.Growth.{Copying, Copied, Sealed}
+use Rattle.clauses.specs.Growth.{Copied, Sealed}
 use Rattle.clauses.specs.Closing.{Closed, Closing}
 use Rattle.clauses.specs.declared.row.Row.{Row}
 use Rattle.clauses.specs.declared.store.Store.{Store}
@@ -25,30 +25,8 @@ get_d_on xs ys n k d le h =
     let e : n + (k - n) ≡ k = omega arith in
     ap (λ (z : ℕ). get_or xs z d) (sym e) ∙ sym (get_or-drop n xs (k - n) d) ∙ ap (λ (zs : List _). get_or zs (k - n) d) h ∙ get_or-drop n ys (k - n) d ∙ ap (λ (z : ℕ). get_or ys z d) e
 
-take_parts : {X : Type 0} (xs : List X) (f n : ℕ) → take (f + n) xs ≡ take f xs ++ take n (drop f xs)
-take_parts xs f n =
-    sym (take-append-drop f (take (f + n) xs)) ∙ rw (take-take f (f + n) xs (omega arith), drop-take f n xs)
-
 pub stretch_long : (lits : List ℤ) (start len : ℕ) → start + len ≤ length lits → length (take len (drop start lits)) ≡ len
 stretch_long lits start len h = length-take-le len (drop start lits) (omega (arith, length-drop start lits))
-
--- literals that already stand where they should
-pub copied_here : (s : Store) (start len : ℕ) → s.filled ≡ start → start + len ≤ length s.literals.now → Copied s s (take len (drop start s.literals.now))
-copied_here s start len e h =
-    let lits = s.literals.now in
-    let n : length (take len (drop start lits)) ≡ len = stretch_long lits start len h in
-    record { rows = refl; count = refl; filled = refl; variables = refl; next = refl; long = refl; copied = rw (e, n, take-take len len (drop start lits) (omega arith)) (take_parts lits start len); rest = refl }
-
--- the literal at start + i, read where the first i were copied
-pub copy_reads : (s t : Store) (start len i : ℕ) → s.filled ≤ start → i < len → Copying s t (take len (drop start s.literals.now)) i → get_or t.literals.now (start + i) (pos 0) ≡ get_or (take len (drop start s.literals.now)) i (pos 0)
-copy_reads s t start len i le lt h =
-    get_d_on t.literals.now s.literals.now (s.filled + i) (start + i) (pos 0) (omega arith) h.rest
-    ∙ sym (get_or-take len (drop start s.literals.now) i (pos 0) lt ∙ get_or-drop start s.literals.now i (pos 0))
-
-pub copied_done : (s t : Store) (start len i : ℕ) → start + len ≤ length s.literals.now → i ≡ len → Copying s t (take len (drop start s.literals.now)) i → Copied s t (take len (drop start s.literals.now))
-copied_done s t start len i h e k =
-    let P : ℕ → Type 0 = λ n. Copying s t (take len (drop start s.literals.now)) n in
-    subst P (e ∙ sym (stretch_long s.literals.now start len h)) k
 
 pub closing_none : (s t : Store) → Sound s → t.rows.now ≡ s.rows.now → t.literals.now ≡ s.literals.now → t.count ≡ 0 → t.filled ≡ 0 → t.variables ≡ s.variables → t.next ≡ s.next → Closing s.rows.now s.literals.now s.count s.next s.variables t 0
 closing_none s t ok r l k f v n =

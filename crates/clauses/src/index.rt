@@ -24,9 +24,7 @@ impl Index<'_> {
         ensures next { length self.new.next.now ≡ length self.old.next.now }
         ensures owners { length self.new.owners.now ≡ length self.old.owners.now }
     {
-        for code in 0..lists {
-            self.heads[code] = 0;
-        }
+        self.heads[0..lists].fill(0);
         self.lists = lists;
         self.used = 0;
     }

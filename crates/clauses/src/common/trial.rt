@@ -12,7 +12,7 @@ ghost use Rattle.clauses.specs.declared.phase.Phase.TheVariants.{Open};
 use super::{Common, Values};
 use crate::fault::{BaseFault, Hinted};
 use crate::form::well_formed;
-use crate::literal::{assign, deny};
+use crate::literal::{assign, give};
 use crate::mark::Mark;
 use crate::phase::Phase;
 use crate::scan::{Status, status_of};
@@ -23,9 +23,7 @@ impl Values<'_> {
     fn unset(&mut self)
         ensures { Denied self.old self.new [] }
     {
-        for cell in 0..self.cells.len() {
-            self.cells[cell] = None;
-        }
+        self.cells.fill(None);
     }
 
     /// The clause's literals are false, all else is unset.
@@ -34,8 +32,8 @@ impl Values<'_> {
         ensures { Denied self.old self.new clause.now }
     {
         self.unset();
-        for i in (0..clause.len()).rev() {
-            deny(self.cells, clause[i]);
+        for literal in clause.iter().rev() {
+            give(self.cells, *literal, false);
         }
     }
 }
@@ -72,11 +70,7 @@ impl Common<'_> {
     pub fn is_open(&self) -> bool
         ensures { Decides result (self.now.phase ≡ Open) }
     {
-        match self.phase {
-            Phase::Idle => false,
-            Phase::Open => true,
-            Phase::Answered => false,
-        }
+        self.phase == Phase::Open
     }
 
     pub(crate) fn start(&mut self, clause: &[i32]) -> Result<Mark, BaseFault>
@@ -85,7 +79,7 @@ impl Common<'_> {
         ensures sane { Sane self.new }
         ensures steady { Steady self.old self.new }
     {
-        if !self.is_idle() {
+        if self.phase != Phase::Idle {
             return Err(BaseFault::InTrial);
         }
         if !well_formed(clause, self.store.variables) {
@@ -105,17 +99,12 @@ impl Common<'_> {
         if !self.is_open() {
             return Err(BaseFault::InTrial);
         }
-        match self.store.find(number) {
-            Some(k) => match follow(&self.store, &mut self.values, k) {
-                Hinted::Unit => Ok(Hinted::Unit),
-                Hinted::Conflict => {
-                    self.phase = Phase::Answered;
-                    Ok(Hinted::Conflict)
-                }
-                Hinted::Useless => Ok(Hinted::Useless),
-            },
-            None => Err(BaseFault::NotLive),
+        let k = self.store.find(number).ok_or(BaseFault::NotLive)?;
+        let said = follow(&self.store, &mut self.values, k);
+        if said == Hinted::Conflict {
+            self.phase = Phase::Answered;
         }
+        Ok(said)
     }
 
     pub(crate) fn finish(&mut self, mark: Mark)
@@ -141,11 +130,6 @@ impl Common<'_> {
         if !self.is_open() {
             return None;
         }
-        let cell = variable as usize;
-        if cell < self.values.cells.len() {
-            self.values.cells[cell]
-        } else {
-            None
-        }
+        self.values.cells.get(variable as usize).copied().flatten()
     }
 }

@@ -8,14 +8,13 @@ use crate::row::Row;
 
 impl Store<'_> {
     /// Copies literals behind those in use.
+    #[tactic(auto, using(std::proofs::lemmas::Slice::overwrites))]
     fn copy_in(&mut self, clause: &[i32])
         requires { self.old.filled + length clause.now ≤ length self.old.literals.now }
         ensures { Copied self.old self.new clause.now }
     {
         let end = self.filled;
-        for i in 0..clause.len() {
-            self.literals[end + i] = clause[i];
-        }
+        self.literals[end..end + clause.len()].copy_from_slice(clause);
     }
 
     /// Takes so many literals more into use, as a clause.

@@ -13,13 +13,7 @@ impl Store<'_> {
         requires within { from + len ≤ length self.old.literals.now }
         ensures { Copied self.old self.new (take len (drop from self.old.literals.now)) }
     {
-        let end = self.filled;
-        if end == from {
-            return;
-        }
-        for i in 0..len {
-            self.literals[end + i] = self.literals[from + i];
-        }
+        self.literals.copy_within(from..from + len, self.filled);
     }
 
     /// Closes the gaps: each row is live, and its literals follow those of the row before.
