@@ -10,7 +10,7 @@ use Rattle.clauses.specs.Calls.{Deletes, Hints}
 use Rattle.clauses.specs.Cells.{values_of, Placed}
 use Rattle.clauses.specs.Status.{status_from}
 use Rattle.clauses.specs.Rows.{row_at}
-use Rattle.clauses.specs.Stored.{held, Sound}
+use Rattle.clauses.specs.Stored.{held}
 use Rattle.clauses.specs.Finding.{Found, TakenOut}
 use Rattle.clauses.specs.Events.{clause_at}
 use Rattle.clauses.specs.Common.{trial_of, room_of, meaning_of, Sane, Steady}
@@ -22,7 +22,7 @@ use Rattle.clauses.specs.declared.scan.Status.TheVariants.{Conflict as Conflicti
 use Rattle.clauses.specs.declared.fault.Hinted.{Hinted}
 use Rattle.clauses.specs.declared.fault.Hinted.TheVariants.{Conflict, Useless, Unit as OneLeft}
 use Rattle.clauses.proofs.Theory.{no_conflict, settled_unit}
-use Rattle.clauses.proofs.Memory.{values_write, values_set}
+use Rattle.clauses.proofs.Memory.{sound_of, values_write, values_set}
 use Rattle.clauses.proofs.Statuses.{means_of}
 use Rattle.clauses.proofs.Keeping.{live_at}
 use Rattle.clauses.proofs.OneRow.{at_row, unit_holds}
@@ -33,23 +33,22 @@ meaning_is d m v l n r t = rw (v, l, n, r, t)
 pub room_same : (c d : Common) → Steady c d → room_of d ≡ room_of c
 room_same c d s = rw (s.rows, s.literals, s.cells)
 
--- the store alone changed
-pub sane_store : (c d : Common) → Sane c → Steady c d → Sound d.store → d.store.variables ≡ c.store.variables → Sane d
-sane_store c d ok s sound v =
-    record { sound = sound; placed = rw (v, s.cells) ok.placed; lasting = rw (s.cells, s.trail) ok.lasting; few = rw s.rows ok.few; small = rw s.literals ok.small }
+-- the parts fit together
+pub sane_of : (c : Common) → Sane c
+sane_of c = record { sound = sound_of c.store; placed = c.placed; lasting = c.lasting; few = c.store.few; small = c.store.small }
 
-pub deleted : (c d : Common) (n k : ℕ) → Sane c → c.phase ≡ Idle → k < c.store.count → (row_at c.store.rows.now k).number ≡ n → (row_at c.store.rows.now k).live ≡ true → TakenOut c.store d.store k → d.values.cells.now ≡ c.values.cells.now → d.phase ≡ c.phase → Steady c d → Deletes (meaning_of c) n (Ok tt) (meaning_of d)
-deleted c d n k ok p lt num live t cells phase s =
-    let at : HeldAt (held c.store) n (clause_at c.store k) = subst (λ (z : ℕ). HeldAt (held c.store) z (clause_at c.store k)) num (at_row c.store k (clause_at c.store k) refl lt ok.sound live) in (
+pub deleted : (c d : Common) (n k : ℕ) → c.phase ≡ Idle → k < c.store.count → (row_at c.store.rows.now k).number ≡ n → (row_at c.store.rows.now k).live ≡ true → TakenOut c.store d.store k → d.values.cells.now ≡ c.values.cells.now → d.phase ≡ c.phase → Steady c d → Deletes (meaning_of c) n (Ok tt) (meaning_of d)
+deleted c d n k p lt num live t cells phase s =
+    let at : HeldAt (held c.store) n (clause_at c.store k) = subst (λ (z : ℕ). HeldAt (held c.store) z (clause_at c.store k)) num (at_row c.store k (clause_at c.store k) refl lt (sound_of c.store) live) in (
       rw p,
       holds_from (live_at (held c.store) n (clause_at c.store k) at),
       meaning_is d (with_deleted (meaning_of c) n) t.kept.variables (t.clauses live ∙ rw num) t.next (room_same c d s) (rw (cells, phase)),
     )
 
 -- what a live clause says
-module _ (c d : Common) (n k : ℕ) (ok : Sane c) (p : c.phase ≡ Open) (lt : k < c.store.count) (num : (row_at c.store.rows.now k).number ≡ n) (live : (row_at c.store.rows.now k).live ≡ true) (same : d.store ≡ c.store) (s : Steady c d) where
+module _ (c d : Common) (n k : ℕ) (p : c.phase ≡ Open) (lt : k < c.store.count) (num : (row_at c.store.rows.now k).number ≡ n) (live : (row_at c.store.rows.now k).live ≡ true) (same : d.store ≡ c.store) (s : Steady c d) where
   at : HeldAt (held c.store) n (clause_at c.store k)
-  at = subst (λ (z : ℕ). HeldAt (held c.store) z (clause_at c.store k)) num (at_row c.store k (clause_at c.store k) refl lt ok.sound live)
+  at = subst (λ (z : ℕ). HeldAt (held c.store) z (clause_at c.store k)) num (at_row c.store k (clause_at c.store k) refl lt (sound_of c.store) live)
 
   rest : (t : Trial) → trial_of d.phase d.values.cells.now ≡ t → meaning_of d ≡ with_trial (meaning_of c) (meaning_of d).trial
   rest t e = meaning_is d (with_trial (meaning_of c) (meaning_of d).trial) (rw same) (rw same) (rw same) (room_same c d s) refl
@@ -92,8 +91,8 @@ module _ (xs : List (Option Bool)) (cl dl : Clause) (is : cl ≡ dl) where
       let w : ys ≡ set xs (variable_of l) (Some (positive l)) = rw (to_z-of_z w32 l fits) at new in
       (l, (rw is at u, ap values_of w ∙ values_set xs l v))
 
-pub found_live : (s : Store) (n : ℕ) (r : Option ℕ) → Sound s → Found s n r → is_some r ≡ is_live (held s) n
-found_live s n None ok h = sym h
-found_live s n (Some k) ok h =
-    let at : HeldAt (held s) n (clause_at s k) = subst (λ (z : ℕ). HeldAt (held s) z (clause_at s k)) h.1 (at_row s k (clause_at s k) refl h.0 ok h.2) in
+pub found_live : (s : Store) (n : ℕ) (r : Option ℕ) → Found s n r → is_some r ≡ is_live (held s) n
+found_live s n None h = sym h
+found_live s n (Some k) h =
+    let at : HeldAt (held s) n (clause_at s k) = subst (λ (z : ℕ). HeldAt (held s) z (clause_at s k)) h.1 (at_row s k (clause_at s k) refl h.0 (sound_of s) h.2) in
     sym (live_at (held s) n (clause_at s k) at)

@@ -1,12 +1,12 @@
 -- A store with one more clause.
-use Rattle.std.proofs.Common.{◌≡◌, ℕ, ◌+◌, ◌-◌, ◌^◌, ◌<◌, ◌≤◌, true, ◌≢◌, ◌⊎◌, List, [], ◌∷◌, ◌++◌, length, get_or, take, drop, set, ℤ, pos, sym, ap, ◌∙◌, inl, inr, arith, below_more}
-use Rattle.std.proofs.lemmas.List.{get_or-set_same, get_or-set_other, length-set, length-take-le, take_more_set, take-take, take-append-le, drop-take, drop_at, get_or-take, get_or_append_left, get_or-append_right}
+use Rattle.std.proofs.Common.{◌≡◌, ℕ, ◌+◌, ◌-◌, ◌<◌, ◌≤◌, true, ◌≢◌, ◌⊎◌, List, [], ◌∷◌, ◌++◌, length, get_or, take, drop, set, ℤ, pos, sym, ap, ◌∙◌, inl, inr, arith, below_more}
+use Rattle.std.proofs.lemmas.List.{get_or-set_same, get_or-set_other, length-take-le, take_more_set, take-take, take-append-le, drop-take, drop_at, get_or-take, get_or_append_left, get_or-append_right}
 use Rattle.std.proofs.ByRecursion.{All-from_get_or}
 use Rattle.std.proofs.lemmas.Bool.{cases_lt}
 use Rattle.std.specs.List.{AllByRecursion}
 use Rattle.text.specs.Literals.{Clause, variable_of}
 use Rattle.clauses.specs.Rows.{no_row, row_at, span, held_in, Spans, Rising, Named, Ordered, Under, Dense}
-use Rattle.clauses.specs.Stored.{held, Sound}
+use Rattle.clauses.specs.Stored.{held}
 use Rattle.clauses.specs.Growth.{Speaks, Copied, Sealed}
 use Rattle.clauses.specs.declared.row.Row.{Row}
 use Rattle.clauses.specs.declared.store.Store.{Store}
@@ -95,22 +95,12 @@ appended_of s t v u number len c e cp r k f l w se =
       copied = rw (se.literals, l) cp.copied;
     }
 
-module _ (s u : Store) (number : ℕ) (c : Clause) (ok : Sound s) (lt : s.count < length s.rows.now) (fits : s.filled + length c ≤ length s.literals.now) (a : Appended s u number c) where
-  pub appended_sound : s.filled + length c < 2 ^ 32 → Speaks c s.variables → Under s.rows.now s.count number → number < u.next → s.next ≤ u.next → Sound u
-  appended_sound small speaks up below more =
-      record {
-        counted = rw (a.rows, a.count, length-set s.rows.now s.count r) (omega arith);
-        small = omega (arith, a.filled);
-        within = omega (arith, a.filled, a.long);
-        spans = rw (a.rows, a.count, a.filled) (spans_push s.rows.now s.count r lt s.filled (s.filled + length c) ok.spans (omega arith) (omega arith));
-        ordered = rw (a.rows, a.count) (ordered_push s.rows.now s.count r lt s.filled ok.ordered ok.spans (omega arith));
-        rising = rw (a.rows, a.count) (rising_push s.rows.now s.count r lt ok.rising up);
-        under = rw (a.rows, a.count) (under_push s.rows.now s.count r lt u.next (λ k kn. omega (arith, ok.under k kn)) below);
-        named = rw (a.filled, a.variables) (named_copied s.literals.now u.literals.now c s.filled ok.within a.copied s.variables ok.named speaks);
-      }
-    where
-      r : Row
-      r = record { number = number; start = s.filled; len = length c; live = true }
+-- what is held then
+pub appended_held : (s u : Store) (number : ℕ) (c : Clause) → s.count < length s.rows.now → Appended s u number c → held u ≡ held s ++ record { number = number; literals = c } ∷ []
+appended_held s u number c lt a =
+    rw (a.rows, a.count) (held_copied s.literals.now u.literals.now c s.filled s.within a.copied s.rows.now s.count number lt s.spans)
 
-  pub appended_held : held u ≡ held s ++ record { number = number; literals = c } ∷ []
-  appended_held = rw (a.rows, a.count) (held_copied s.literals.now u.literals.now c s.filled ok.within a.copied s.rows.now s.count number lt ok.spans)
+-- the literals of a clause that was copied speak of variables
+pub copied_named : (s t : Store) (c : Clause) (n : ℕ) → n ≡ length c → Copied s t c → Speaks c s.variables → Named t.literals.now (t.filled + n) t.variables
+copied_named s t c n e cp speaks =
+    rw (e, cp.filled, cp.variables) (named_copied s.literals.now t.literals.now c s.filled s.within cp.copied s.variables s.named speaks)

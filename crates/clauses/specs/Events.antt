@@ -1,8 +1,8 @@
 -- What an engine keeps that looks at a clause when a literal of it becomes false.
-use Rattle.std.specs.Prelude.{◌≡◌, ℕ, ◌+◌, ◌-◌, ◌*◌, ◌^◌, ◌<◌, ◌≤◌, Bool, true, false, ◌⊎◌, List, length, take, pos, Some, Option, slice_index, slice_index_or}
+use Rattle.std.specs.Prelude.{◌≡◌, ℕ, ◌+◌, ◌-◌, ◌*◌, ◌<◌, ◌≤◌, Bool, true, false, ◌⊎◌, List, length, take, pos, Some, Option, slice_index, slice_index_or}
 use Rattle.text.specs.Literals.{Clause, variable_of, positive}
 use Rattle.clauses.specs.Propagation.{Settled, Reached}
-use Rattle.clauses.specs.Stored.{held, Sound}
+use Rattle.clauses.specs.Stored.{held}
 use Rattle.clauses.specs.Engine.{Ready}
 use Rattle.clauses.specs.Cells.{values_of}
 use Rattle.clauses.specs.Rows.{row_at, span}
@@ -47,12 +47,10 @@ Walking s x xs t head link = (k : ℕ) → k < s.count → Settled (values_of xs
 
 -- the memory suffices
 pub record Fit (s : Store) (x : Index) : Type 0 where
-  pub sound : Sound s
   pub linked : Linked x
   pub next : s.filled ≤ length x.next.now
   pub owners : s.filled ≤ length x.owners.now
   pub heads : 2 * s.variables ≤ x.lists - 2
-  pub few : s.count < 2 ^ 32
 
 -- an index keeps its memory
 pub record Same (x y : Index) : Type 0 where

@@ -3,7 +3,7 @@
 -- Copied: literals stand behind those in use; Sealed: and are a clause; Pushed: under the next number
 use Rattle.std.specs.Prelude.{◌≡◌, ℕ, ◌+◌, ◌-◌, ◌<◌, true, [], ◌∷◌, ◌++◌, length, take, drop, pos, slice_index_or, slice_set}
 use Rattle.text.specs.Literals.{Clause, variable_of}
-use Rattle.clauses.specs.Stored.{held, Sound, Kept}
+use Rattle.clauses.specs.Stored.{held, Kept}
 use Rattle.clauses.specs.declared.store.Store.{Store}
 
 abbrev pub Speaks : Clause → ℕ → Type 0
@@ -29,7 +29,6 @@ pub record Sealed (s t : Store) (number len : ℕ) : Type 0 where
   pub next : t.next ≡ s.next
 
 pub record Pushed (s t : Store) (c : Clause) : Type 0 where
-  pub sound : Sound t
   pub kept : Kept s t
   pub next : t.next ≡ s.next + 1
   pub clauses : held t ≡ held s ++ record { number = s.next; literals = c } ∷ []

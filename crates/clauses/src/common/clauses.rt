@@ -1,6 +1,6 @@
 //! The clauses of a base.
 ghost use Rattle.clauses.specs.Calls.{Adds, Clears, Deletes};
-ghost use Rattle.clauses.specs.Common.{meaning_of, room_of, Sane, Steady};
+ghost use Rattle.clauses.specs.Common.{meaning_of, room_of, Steady};
 ghost use Rattle.std.specs.Prelude.{◌≡◌};
 
 use super::Common;
@@ -14,9 +14,7 @@ const HIGHEST: u32 = 1_000_000;
 
 impl Common<'_> {
     pub(crate) fn clear(&mut self, variables: u32) -> Result<(), BaseFault>
-        requires { Sane self.old }
         ensures call { Clears (meaning_of self.old) variables result (meaning_of self.new) }
-        ensures sane { Sane self.new }
         ensures steady { Steady self.old self.new }
     {
         if self.phase != Phase::Idle {
@@ -30,9 +28,7 @@ impl Common<'_> {
     }
 
     pub(crate) fn add(&mut self, clause: &[i32]) -> Result<u32, BaseFault>
-        requires { Sane self.old }
         ensures call { Adds (meaning_of self.old) clause.now result (meaning_of self.new) }
-        ensures sane { Sane self.new }
         ensures steady { Steady self.old self.new }
     {
         if self.phase != Phase::Idle {
@@ -50,9 +46,7 @@ impl Common<'_> {
     }
 
     pub(crate) fn delete(&mut self, number: u32) -> Result<(), BaseFault>
-        requires { Sane self.old }
         ensures call { Deletes (meaning_of self.old) number result (meaning_of self.new) }
-        ensures sane { Sane self.new }
         ensures steady { Steady self.old self.new }
     {
         if self.phase != Phase::Idle {

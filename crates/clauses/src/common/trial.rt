@@ -3,9 +3,8 @@ ghost use Rattle.std.specs.Prelude.{◌≡◌, ◌-◌, ◌<◌, ◌≤◌, [], 
 ghost use Rattle.clauses.specs.Calls.{Finishes, Hints, Starts};
 ghost use Rattle.clauses.specs.Cells.{Placed};
 ghost use Rattle.clauses.specs.ClauseBase.{is_live, value_in};
-ghost use Rattle.clauses.specs.Common.{meaning_of, Sane, Steady};
+ghost use Rattle.clauses.specs.Common.{meaning_of, Steady};
 ghost use Rattle.clauses.specs.Events.{clause_at};
-ghost use Rattle.clauses.specs.Stored.{Sound};
 ghost use Rattle.clauses.specs.Trying.{Denied, Followed};
 ghost use Rattle.clauses.specs.declared.phase.Phase.TheVariants.{Open};
 
@@ -41,7 +40,6 @@ impl Values<'_> {
 /// What the clause in row k says. Sets the literal that it forces.
 fn judge(store: &Store, cells: &mut [Option<bool>], k: usize) -> Hinted
     requires k { k < store.now.count }
-    requires sound { Sound store.now }
     requires placed { store.now.variables ≤ length cells.old - 1 }
     ensures { Followed cells.old cells.new (clause_at store.now k) result }
 {
@@ -55,9 +53,9 @@ fn judge(store: &Store, cells: &mut [Option<bool>], k: usize) -> Hinted
     }
 }
 
+// `hint` lends the store beside the values, and a slice behind a reference can only be lent on from a parameter.
 fn follow(store: &Store, values: &mut Values, k: usize) -> Hinted
     requires k { k < store.now.count }
-    requires sound { Sound store.now }
     requires placed { store.now.variables ≤ length values.old.cells.now - 1 }
     ensures says { Followed values.old.cells.now values.new.cells.now (clause_at store.now k) result }
     ensures cells { length values.new.cells.now ≡ length values.old.cells.now }
@@ -74,9 +72,7 @@ impl Common<'_> {
     }
 
     pub(crate) fn start(&mut self, clause: &[i32]) -> Result<Mark, BaseFault>
-        requires { Sane self.old }
         ensures call { Starts (meaning_of self.old) clause.now result (meaning_of self.new) }
-        ensures sane { Sane self.new }
         ensures steady { Steady self.old self.new }
     {
         if self.phase != Phase::Idle {
@@ -91,9 +87,7 @@ impl Common<'_> {
     }
 
     pub(crate) fn hint(&mut self, number: u32) -> Result<Hinted, BaseFault>
-        requires { Sane self.old }
         ensures call { Hints (meaning_of self.old) number result (meaning_of self.new) }
-        ensures sane { Sane self.new }
         ensures steady { Steady self.old self.new }
     {
         if !self.is_open() {
@@ -108,9 +102,7 @@ impl Common<'_> {
     }
 
     pub(crate) fn finish(&mut self, mark: Mark)
-        requires { Sane self.old }
         ensures call { Finishes (meaning_of self.old) (meaning_of self.new) }
-        ensures sane { Sane self.new }
         ensures steady { Steady self.old self.new }
     {
         let Mark { seal: () } = mark;
@@ -118,7 +110,6 @@ impl Common<'_> {
     }
 
     pub(crate) fn is_live(&self, number: u32) -> bool
-        requires { Sane self.now }
         ensures { result ≡ is_live (meaning_of self.now).live number }
     {
         self.store.find(number).is_some()

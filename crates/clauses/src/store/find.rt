@@ -2,14 +2,12 @@
 ghost use Rattle.std.specs.Prelude.{ℕ, ◌<◌, ◌≤◌};
 ghost use Rattle.clauses.specs.Finding.{Found, TakenOut};
 ghost use Rattle.clauses.specs.Rows.{row_at};
-ghost use Rattle.clauses.specs.Stored.{Sound};
 
 use super::Store;
 
 impl Store<'_> {
     /// How many rows have a lower number.
     fn lower(&self, number: u32) -> usize
-        requires { Sound self.now }
         ensures within { result ≤ self.now.count }
         ensures below { (j : ℕ) → j < result → (row_at self.now.rows.now j).number < number }
         ensures above { (j : ℕ) → result ≤ j → j < self.now.count → number ≤ (row_at self.now.rows.now j).number }
@@ -19,7 +17,6 @@ impl Store<'_> {
 
     /// The row of the live clause with this number.
     pub(crate) fn find(&self, number: u32) -> Option<usize>
-        requires { Sound self.now }
         ensures { Found self.now number result }
     {
         let k = self.lower(number);
@@ -32,8 +29,7 @@ impl Store<'_> {
 
     /// Takes the clause in row k out. Its row holds its place until the gaps are closed.
     pub(crate) fn take_out(&mut self, k: usize)
-        requires k { k < self.old.count }
-        requires sound { Sound self.old }
+        requires { k < self.old.count }
         ensures { TakenOut self.old self.new k }
     {
         self.rows[k].live = false;

@@ -2,7 +2,7 @@ use Rattle.std.proofs.Common.{◌≡◌, Some, refl, ap, ◌∙◌, rules}
 use Rattle.std.specs.Result.{result_ok}
 use Rattle.clauses.specs.Common.{Steady}
 use Rattle.clauses.specs.Finding.{Found}
-use Rattle.clauses.proofs.Commons.{sane_store, deleted}
+use Rattle.clauses.proofs.Commons.{deleted}
 use Rattle.clauses.proofs.common.Common.delete.Goals as goal
 
 pub returns : goal.returns
@@ -11,5 +11,5 @@ returns c =
     let o : c.find.result ≡ Some c.in_ok-k.k = c.ok_or.ensures.ok_part ∙ ap result_ok c.in_ok-k.was in
     let f : Found a.store c.args.number (Some c.in_ok-k.k) = rw o at c.find.ensures in
     let t = c.take_out.ensures in
-    let s : Steady a (record { store = c.take_out.new.self; values = a.values; trail = a.trail; phase = a.phase }) = record { rows = t.kept.rows; literals = t.kept.literals; cells = refl; trail = refl } in
-    record { call = deleted a _ c.args.number c.in_ok-k.k c.requires (search rules) f.0 f.1 f.2 t refl refl s; sane = sane_store a _ c.requires s t.sound t.kept.variables; steady = s }
+    let s : Steady a _ = record { rows = t.kept.rows; literals = t.kept.literals; cells = refl; trail = refl } in
+    record { call = deleted a _ c.args.number c.in_ok-k.k (search rules) f.0 f.1 f.2 t refl refl s; steady = s }

@@ -1,5 +1,5 @@
 use Rattle.std.proofs.Common.{arith}
-use Rattle.clauses.proofs.Memory.{unset_most, named_none}
+use Rattle.clauses.proofs.Memory.{sound_of, unset_most, named_none}
 use Rattle.clauses.proofs.watched.run.answer.Goals as goal
 
 pub propagate-requires : goal.propagate-requires
@@ -7,10 +7,10 @@ propagate-requires c =
     let e = c.close.ensures in
     let ok = c.requires.sane in
     record {
-      few = omega (arith, e.sound.counted, e.kept.rows, ok.few);
-      ready = record { sound = e.sound; dense = e.dense; enough = rw e.kept.variables ok.placed; room = omega (arith, unset_most c.args.common.now.values.cells.now, ok.lasting); named = named_none c.args.common.now.trail.literals.now c.close.new.self.variables };
-      places = omega (arith, e.sound.counted, e.kept.rows, c.requires.places);
+      few = omega (arith, c.close.new.self.counted, e.kept.rows, ok.few);
+      ready = record { sound = sound_of c.close.new.self; dense = e.dense; enough = rw e.kept.variables ok.placed; room = omega (arith, unset_most c.args.common.now.values.cells.now, ok.lasting); named = named_none c.args.common.now.trail.literals.now c.close.new.self.variables };
+      places = omega (arith, c.close.new.self.counted, e.kept.rows, c.requires.places);
       heads = omega (arith, e.kept.variables, ok.placed, c.requires.heads);
-      next = omega (arith, e.sound.within, e.kept.literals, c.requires.next);
-      owners = omega (arith, e.sound.within, e.kept.literals, c.requires.owners);
+      next = omega (arith, c.close.new.self.within, e.kept.literals, c.requires.next);
+      owners = omega (arith, c.close.new.self.within, e.kept.literals, c.requires.owners);
     }
