@@ -1,7 +1,7 @@
 -- The watching engine, step by step.
-use Rattle.std.proofs.Common.{◌≡◌, ℕ, ◌+◌, ◌-◌, ◌*◌, ◌^◌, ◌<◌, ◌≤◌, Bool, true, false, T, ◌≢◌, ◌⊎◌, List, length, get_or, set, ℤ, pos, Some, None, Option, sym, refl, ap, ◌∙◌, subst, inl, inr, arith, below_more}
+use Rattle.std.proofs.Common.{Ok, Err, OnOk, is_err, Result, ◌≡◌, ℕ, ◌+◌, ◌-◌, ◌*◌, ◌^◌, ◌<◌, ◌≤◌, Bool, true, false, T, ◌≢◌, ◌⊎◌, List, length, get_or, set, ℤ, pos, Some, None, Option, sym, refl, ap, ◌∙◌, subst, inl, inr, arith, below_more}
 use Rattle.std.proofs.lemmas.List.{get_or-set_same, get_or-set_other, length-set}
-use Rattle.std.proofs.lemmas.Bool.{cases_eq, false≢true}
+use Rattle.std.proofs.lemmas.Bool.{cases_eq}
 use Rattle.text.specs.Literals.{Clause, variable_of}
 use Rattle.clauses.specs.Propagation.{value, is_false, satisfied, Settled, Reached, Below}
 use Rattle.clauses.specs.Cells.{values_of}
@@ -9,7 +9,7 @@ use Rattle.clauses.specs.Codes.{code_of, code_against, Against}
 use Rattle.clauses.specs.Linked.{On, Linked}
 use Rattle.clauses.specs.Engine.{Advanced, Quiet, Ready}
 use Rattle.clauses.specs.Stored.{held, Sound}
-use Rattle.clauses.specs.Events.{clause_at, Listed, Same, Examined, Looked}
+use Rattle.clauses.specs.Events.{clause_at, Listed, Same, Examined}
 use Rattle.clauses.specs.Watching.{false_at, AllBut, Pair, Kept, Guards, Grown, Watches, Spotted, Joined, Enlisted, Moved, Renewed, Visited, Waits, Rest, Watch, Paired, Guarded, Watchful}
 use Rattle.clauses.specs.declared.index.Index.{Index}
 use Rattle.clauses.specs.declared.store.Store.{Store}
@@ -359,9 +359,9 @@ same_more x y z a b = record { heads = b.heads ∙ a.heads; next = b.next ∙ a.
 pub same_of : (x y : Index) → length y.heads.now ≡ length x.heads.now → length y.next.now ≡ length x.next.now → length y.owners.now ≡ length x.owners.now → Same x y
 same_of x y a b c = record { heads = a; next = b; owners = c }
 
-pub visited_examine : (s : Store) (k : ℕ) (w : List ℕ) (x : Index) (xs ys : List (Option Bool)) (t u : Trail) (cl : Clause) (r : Bool) → r ≡ false → cl ≡ clause_at s k → Guards s x → Spotted s x.used xs w → ((p : ℕ) × AllBut xs cl p) → Advanced (held s) xs ys r → Looked s k xs ys t u r → Visited s k x x w w xs ys t u
-visited_examine s k w x xs ys t u cl true q is g spots none goes looked = absurd (false≢true (sym q))
-visited_examine s k w x xs ys t u cl false q is g spots none goes looked = visited_look s k w x xs ys t u cl is g spots none goes looked
+pub visited_examine : {E : Type 0} (s : Store) (k : ℕ) (w : List ℕ) (x : Index) (xs ys : List (Option Bool)) (t u : Trail) (cl : Clause) (r : Result (Unit {0}) E) → cl ≡ clause_at s k → Guards s x → Spotted s x.used xs w → ((p : ℕ) × AllBut xs cl p) → Advanced (held s) xs ys (is_err r) → OnOk r (Examined s k xs ys t u) → OnOk r (Visited s k x x w w xs ys t u)
+visited_examine s k w x xs ys t u cl (Err e) is g spots none goes examined = tt
+visited_examine s k w x xs ys t u cl (Ok a) is g spots none goes examined = visited_look s k w x xs ys t u cl is g spots none goes examined
 
 pub begun_none : (s : Store) (x₀ x : Index) (w : List ℕ) (xs : List (Option Bool)) (t : Trail) → Ready s xs t → Same x₀ x → Guards s x → x.used ≡ 0 → ((k : ℕ) → k < 2 * s.count → get_or w k 0 ≡ 4294967295) → Begun s x₀ x w xs xs t t 0
 begun_none s x₀ x w xs t ready same g e h =

@@ -7,7 +7,7 @@ ghost use Rattle.clauses.specs.Counting.{non_false};
 use crate::index::Index;
 use crate::indexing::index_all;
 use crate::literal::{code_against, is_open};
-use crate::look::examine;
+use crate::look::{Conflict, examine};
 use crate::propagator::Propagator;
 use crate::store::Store;
 use crate::trail::Trail;
@@ -49,16 +49,14 @@ impl Propagator for Counters<'_> {
         values: &mut [Option<bool>],
         index: &mut Index,
         trail: &mut Trail,
-    ) -> bool {
+    ) -> Result<(), Conflict> {
         index_all(store, index);
         let left = &mut *self.left;
         for k in 0..store.count {
-            if examine(store, k, values, trail) {
-                return true;
-            }
+            examine(store, k, values, trail)?;
             left[k] = count_open(store.clause(k), values);
         }
-        false
+        Ok(())
     }
 
     /// Counts down each clause in which the literal's opposite stands, and looks at it where fewer than two
@@ -70,7 +68,7 @@ impl Propagator for Counters<'_> {
         values: &mut [Option<bool>],
         index: &mut Index,
         trail: &mut Trail,
-    ) -> bool {
+    ) -> Result<(), Conflict> {
         let left = &mut *self.left;
         let mut link = index.heads[code_against(trail.literals[head])];
         while link != 0 {
@@ -82,10 +80,8 @@ impl Propagator for Counters<'_> {
             if open >= 2 {
                 continue;
             }
-            if examine(store, owner, values, trail) {
-                return true;
-            }
+            examine(store, owner, values, trail)?;
         }
-        false
+        Ok(())
     }
 }

@@ -1,5 +1,5 @@
 //! What propagates for a base.
-ghost use Rattle.std.specs.Prelude.{◌≡◌, ℕ, ◌+◌, ◌-◌, ◌*◌, ◌^◌, ◌<◌, ◌≤◌, false, Bool, List, length, Decides, Option};
+ghost use Rattle.std.specs.Prelude.{◌≡◌, ℕ, ◌+◌, ◌-◌, ◌*◌, ◌^◌, ◌<◌, ◌≤◌, is_err, Bool, List, length, Decides, OnOk, Option};
 ghost use Rattle.clauses.specs.Cells.{values_of};
 ghost use Rattle.clauses.specs.Engine.{Advanced, Quiet, Ready};
 ghost use Rattle.clauses.specs.Events.{Same};
@@ -11,6 +11,7 @@ ghost use Rattle.clauses.specs.declared.trail.Trail.{Trail};
 
 use crate::common::Values;
 use crate::index::Index;
+use crate::look::Conflict;
 use crate::store::Store;
 use crate::trail::Trail;
 
@@ -26,14 +27,14 @@ pub trait Propagator: Drop {
     fn serves(&self) -> usize
         ensures { result ≡ serves self.now };
 
-    /// Looks at each clause once. Says whether one is in conflict.
+    /// Looks at each clause once.
     fn start(
         &mut self,
         store: &Store,
         values: &mut [Option<bool>],
         index: &mut Index,
         trail: &mut Trail,
-    ) -> bool
+    ) -> Result<(), Conflict>
         requires few { store.now.count < 2 ^ 32 }
         requires ready { Ready store.now values.old trail.old }
         requires serves { store.now.count ≤ serves self.old }
@@ -41,15 +42,15 @@ pub trait Propagator: Drop {
         requires heads { 2 * store.now.variables ≤ length index.old.heads.now - 2 }
         requires next { store.now.filled ≤ length index.old.next.now }
         requires owners { store.now.filled ≤ length index.old.owners.now }
-        ensures goes { Advanced (held store.now) values.old values.new result }
+        ensures goes { Advanced (held store.now) values.old values.new (is_err result) }
         ensures ready { Ready store.now values.new trail.new }
-        ensures keeps { result ≡ false → Keeps store.now index.new self.new values.new trail.new 0 }
-        ensures quiet { result ≡ false → Quiet store.now values.new trail.new 0 }
+        ensures keeps { OnOk result (Keeps store.now index.new self.new values.new trail.new 0) }
+        ensures quiet { OnOk result (Quiet store.now values.new trail.new 0) }
         ensures serves { serves self.new ≡ serves self.old }
         ensures same { Same index.old index.new }
         ensures room { length trail.new.literals.now ≡ length trail.old.literals.now };
 
-    /// Looks at the clauses that the trail's literal at `head` may force. Says whether one is in conflict.
+    /// Looks at the clauses that the trail's literal at `head` may force.
     fn wake(
         &mut self,
         store: &Store,
@@ -57,16 +58,16 @@ pub trait Propagator: Drop {
         values: &mut [Option<bool>],
         index: &mut Index,
         trail: &mut Trail,
-    ) -> bool
+    ) -> Result<(), Conflict>
         requires few { store.now.count < 2 ^ 32 }
         requires head { head < trail.old.tail }
         requires ready { Ready store.now values.old trail.old }
         requires serves { store.now.count ≤ serves self.old }
         requires keeps { Keeps store.now index.old self.old values.old trail.old head }
-        ensures goes { Advanced (held store.now) values.old values.new result }
+        ensures goes { Advanced (held store.now) values.old values.new (is_err result) }
         ensures ready { Ready store.now values.new trail.new }
-        ensures keeps { result ≡ false → Keeps store.now index.new self.new values.new trail.new (head + 1) }
-        ensures quiet { result ≡ false → Quiet store.now values.new trail.new (head + 1) }
+        ensures keeps { OnOk result (Keeps store.now index.new self.new values.new trail.new (head + 1)) }
+        ensures quiet { OnOk result (Quiet store.now values.new trail.new (head + 1)) }
         ensures serves { serves self.new ≡ serves self.old }
         ensures same { Same index.old index.new }
         ensures room { length trail.new.literals.now ≡ length trail.old.literals.now };
@@ -79,13 +80,13 @@ fn drain<E: Propagator>(
     values: &mut [Option<bool>],
     index: &mut Index,
     trail: &mut Trail,
-) -> bool
+) -> Result<(), Conflict>
     requires few { store.now.count < 2 ^ 32 }
     requires ready { Ready store.now values.old trail.old }
     requires serves { store.now.count ≤ E.serves engine.old }
     requires keeps { E.Keeps store.now index.old engine.old values.old trail.old 0 }
     requires quiet { Quiet store.now values.old trail.old 0 }
-    ensures decides { Decides result (Refuted (held store.now) (values_of values.old)) }
+    ensures decides { Decides (is_err result) (Refuted (held store.now) (values_of values.old)) }
     ensures serves { E.serves engine.new ≡ E.serves engine.old }
     ensures same { Same index.old index.new }
     ensures room { length trail.new.literals.now ≡ length trail.old.literals.now }
@@ -93,22 +94,20 @@ fn drain<E: Propagator>(
     let mut head = 0;
     // The trail grows while it is gone through.
     while head < trail.tail {
-        if engine.wake(store, head, values, index, trail) {
-            return true;
-        }
+        engine.wake(store, head, values, index, trail)?;
         head += 1;
     }
-    false
+    Ok(())
 }
 
-/// Whether unit propagation from these values comes to a conflict.
+/// Unit propagation from these values, until it comes to a conflict or to its end.
 pub(crate) fn propagate<E: Propagator>(
     engine: &mut E,
     store: &Store,
     values: &mut Values,
     index: &mut Index,
     trail: &mut Trail,
-) -> bool
+) -> Result<(), Conflict>
     requires few { store.now.count < 2 ^ 32 }
     requires ready { Ready store.now values.old.cells.now trail.old }
     requires serves { store.now.count ≤ E.serves engine.old }
@@ -116,15 +115,13 @@ pub(crate) fn propagate<E: Propagator>(
     requires heads { 2 * store.now.variables ≤ length index.old.heads.now - 2 }
     requires next { store.now.filled ≤ length index.old.next.now }
     requires owners { store.now.filled ≤ length index.old.owners.now }
-    ensures decides { Decides result (Refuted (held store.now) (values_of values.old.cells.now)) }
+    ensures decides { Decides (is_err result) (Refuted (held store.now) (values_of values.old.cells.now)) }
     ensures cells { length values.new.cells.now ≡ length values.old.cells.now }
     ensures serves { E.serves engine.new ≡ E.serves engine.old }
     ensures same { Same index.old index.new }
     ensures room { length trail.new.literals.now ≡ length trail.old.literals.now }
 {
     let cells = &mut *values.cells;
-    if engine.start(store, cells, index, trail) {
-        return true;
-    }
+    engine.start(store, cells, index, trail)?;
     drain(engine, store, cells, index, trail)
 }

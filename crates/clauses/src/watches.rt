@@ -1,5 +1,5 @@
 //! Propagation by watched literals: a clause is looked at when one of the two that it watches becomes false.
-ghost use Rattle.std.specs.Prelude.{◌≡◌, ℕ, ◌+◌, ◌*◌, ◌/◌, ◌^◌, ◌<◌, ◌≤◌, false, length, ◌≢◌, slice_index};
+ghost use Rattle.std.specs.Prelude.{◌≡◌, ℕ, ◌+◌, ◌*◌, ◌/◌, ◌^◌, ◌<◌, ◌≤◌, is_err, length, OnOk, ◌≢◌, slice_index};
 ghost use Rattle.clauses.specs.Cells.{values_of, Placed};
 ghost use Rattle.clauses.specs.Engine.{Advanced, Ready};
 ghost use Rattle.clauses.specs.Events.{clause_at, Same};
@@ -8,7 +8,7 @@ ghost use Rattle.clauses.specs.Watching.{false_at, Enlisted, Found, Guards, Pick
 
 use crate::index::Index;
 use crate::literal::{code_against, code_of, is_open};
-use crate::look::examine;
+use crate::look::{Conflict, examine};
 use crate::propagator::Propagator;
 use crate::store::Store;
 use crate::trail::Trail;
@@ -86,7 +86,6 @@ fn enlist(store: &Store, k: usize, place: usize, places: &[u32], index: &mut Ind
 }
 
 /// Watches two literals of row k that are not false, or looks at the clause where there are none.
-/// Says whether the clause is in conflict.
 fn visit(
     store: &Store,
     k: usize,
@@ -94,16 +93,16 @@ fn visit(
     places: &mut [u32],
     index: &mut Index,
     trail: &mut Trail,
-) -> bool
+) -> Result<(), Conflict>
     requires k { k < store.now.count }
     requires few { store.now.count < 2 ^ 32 }
     requires ready { Ready store.now values.old trail.old }
     requires places { 2 * store.now.count ≤ length places.old }
     requires guards { Guards store.now index.old }
     requires spots { Spotted store.now index.old.used values.old places.old }
-    ensures goes { Advanced (held store.now) values.old values.new result }
+    ensures goes { Advanced (held store.now) values.old values.new (is_err result) }
     ensures ready { Ready store.now values.new trail.new }
-    ensures visited { result ≡ false → Visited store.now k index.old index.new places.old places.new values.old values.new trail.old trail.new }
+    ensures visited { OnOk result (Visited store.now k index.old index.new places.old places.new values.old values.new trail.old trail.new) }
     ensures same { Same index.old index.new }
     ensures room { length trail.new.literals.now ≡ length trail.old.literals.now }
 {
@@ -115,7 +114,7 @@ fn visit(
             places[2 * k] = first as u32;
             enlist(store, k, second, places, index);
             places[2 * k + 1] = second as u32;
-            false
+            Ok(())
         }
         None => examine(store, k, values, trail),
     }
@@ -145,17 +144,15 @@ impl Propagator for Places<'_> {
         values: &mut [Option<bool>],
         index: &mut Index,
         trail: &mut Trail,
-    ) -> bool {
+    ) -> Result<(), Conflict> {
         let wanted = 2 * store.variables as usize + 2;
         index.clear(wanted.min(index.heads.len()));
         let places = &mut *self.at;
         forget(places, 2 * store.count);
         for k in 0..store.count {
-            if visit(store, k, values, places, index, trail) {
-                return true;
-            }
+            visit(store, k, values, places, index, trail)?;
         }
-        false
+        Ok(())
     }
 
     /// Visits each row that watches the literal's opposite.
@@ -166,17 +163,15 @@ impl Propagator for Places<'_> {
         values: &mut [Option<bool>],
         index: &mut Index,
         trail: &mut Trail,
-    ) -> bool {
+    ) -> Result<(), Conflict> {
         let places = &mut *self.at;
         let mut link = index.heads[code_against(trail.literals[head])];
         while link != 0 {
             let entry = link as usize - 1;
             link = index.next[entry];
             let owner = index.owners[entry] as usize;
-            if visit(store, owner, values, places, index, trail) {
-                return true;
-            }
+            visit(store, owner, values, places, index, trail)?;
         }
-        false
+        Ok(())
     }
 }

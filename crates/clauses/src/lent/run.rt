@@ -36,4 +36,5 @@ pub(super) fn answer<E: Propagator>(common: &mut Common, index: &mut Index, engi
         index,
         &mut common.trail,
     )
+    .is_err()
 }

@@ -1,4 +1,4 @@
-use Rattle.std.proofs.Common.{refl, ◌∙◌}
+use Rattle.std.proofs.Common.{◌∙◌}
 use Rattle.std.proofs.lemmas.Bool.{false≢true}
 use Rattle.clauses.proofs.Theory.{reached_more, settled_refuted}
 use Rattle.clauses.proofs.Guarding.{same_more}
@@ -6,9 +6,9 @@ use Rattle.clauses.proofs.propagator.drain.Goals as goal
 
 pub loop-head-preserved : goal.loop-head-preserved
 loop-head-preserved g c =
-    let e = c.if-wake.ensures in
+    let e = c.in_ok-wake.ensures in
     let i = c.loop-head.invariant in
-    record { reached = reached_more _ _ _ _ i.reached e.goes; ready = e.ready; keeps = e.keeps refl; quiet = e.quiet refl; serves = e.serves ∙ i.serves; same = same_more _ _ _ i.same e.same; room = e.room ∙ i.room }
+    record { reached = reached_more _ _ _ _ i.reached e.goes; ready = e.ready; keeps = e.keeps; quiet = e.quiet; serves = e.serves ∙ i.serves; same = same_more _ _ _ i.same e.same; room = e.room ∙ i.room }
 
 pub returns : goal.returns
 returns g c =

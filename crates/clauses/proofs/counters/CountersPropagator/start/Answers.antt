@@ -7,13 +7,13 @@ use Rattle.clauses.proofs.counters.CountersPropagator.start.Goals as goal
 
 pub count_open-requires : goal.count_open-requires
 count_open-requires c =
-    let e = c.if-examine.ensures in
+    let e = c.in_ok-examine.ensures in
     record { placed = row_placed c.args.store.now c.loop-k.k _ c.clause.ensures c.loop-k-test.true e.ready.sound _ e.ready.enough; short = row_short c.args.store.now c.loop-k.k _ c.clause.ensures c.loop-k-test.true e.ready.sound }
 
 pub loop-k-preserved : goal.loop-k-preserved
 loop-k-preserved c =
-    let e = c.if-examine.ensures in
-    begun_more c.args.store.now _ _ _ _ _ _ _ c.loop-k.k _ _ (omega arith) c.loop-k.invariant e.room e.goes e.ready e.looked c.clause.ensures c.count_open.ensures
+    let e = c.in_ok-examine.ensures in
+    begun_more c.args.store.now _ _ _ _ _ _ _ c.loop-k.k _ _ (omega arith) c.loop-k.invariant e.room e.goes e.ready e.examined c.clause.ensures c.count_open.ensures
 
 pub returns : goal.returns
 returns c =
@@ -23,8 +23,8 @@ returns c =
     record {
       goes = b.starting.reached;
       ready = b.starting.ready;
-      keeps = λ _. record { fit = ix.fit; indexed = ix.indexed; pending = pending; told = begun_told c.args.store.now _ _ _ _ _ c.loop-k.k c.loop-k-test.false b };
-      quiet = λ _. pending_quiet c.args.store.now c.loop-k.values c.loop-k.trail 0 b.starting.ready.sound pending;
+      keeps = record { fit = ix.fit; indexed = ix.indexed; pending = pending; told = begun_told c.args.store.now _ _ _ _ _ c.loop-k.k c.loop-k-test.false b };
+      quiet = pending_quiet c.args.store.now c.loop-k.values c.loop-k.trail 0 b.starting.ready.sound pending;
       serves = c.loop-k.auto.left;
       same = ix.same;
       room = b.room;

@@ -36,11 +36,11 @@ loop-link-preserved-then-open-ge2 c =
 pub loop-link-preserved : goal.loop-link-preserved
 loop-link-preserved c =
     let w = c.loop-link.invariant in
-    let e = c.if-examine.ensures in
+    let e = c.in_ok-examine.ensures in
     let k = get_or c.args.index.now.owners.now (c.loop-link.link - 1) 0 in
     let kl : k < length c.loop-link.left = omega (arith, c.requires.keeps.indexed.owned (c.loop-link.link - 1) (omega (arith, w.0.within))) in
     let t = telling_more c.args.store.now c.args.index.now c.loop-link.values c.loop-link.left c.loop-link.trail _ c.loop-link.link k c.saturating_sub-open.result (omega arith) refl kl c.saturating_sub-open.ensures w.1 in
-    (walk_more _ _ _ _ _ _ _ _ _ _ _ c.requires.keeps.fit.linked (omega arith) refl w.0 e.goes e.ready e.room e.looked, telling_look c.args.store.now c.args.index.now k _ _ _ _ _ _ _ w.0.ahead e.goes e.looked t)
+    (walk_more _ _ _ _ _ _ _ _ _ _ _ c.requires.keeps.fit.linked (omega arith) refl w.0 e.goes e.ready e.room e.examined, telling_look c.args.store.now c.args.index.now k _ _ _ _ _ _ _ w.0.ahead e.goes e.examined t)
 
 pub returns : goal.returns
 returns c =
@@ -50,8 +50,8 @@ returns c =
     record {
       goes = w.0.reached;
       ready = w.0.ready;
-      keeps = λ _. record { fit = k.fit; indexed = k.indexed; pending = pending; told = telling_all _ _ _ _ _ _ _ c.loop-link-test.false w.1 };
-      quiet = λ _. pending_quiet c.args.store.now c.loop-link.values c.loop-link.trail (c.args.head + 1) w.0.ready.sound pending;
+      keeps = record { fit = k.fit; indexed = k.indexed; pending = pending; told = telling_all _ _ _ _ _ _ _ c.loop-link-test.false w.1 };
+      quiet = pending_quiet c.args.store.now c.loop-link.values c.loop-link.trail (c.args.head + 1) w.0.ready.sound pending;
       serves = c.loop-link.auto.left;
       same = same_none c.args.index.now;
       room = w.0.room;

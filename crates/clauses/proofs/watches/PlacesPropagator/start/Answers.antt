@@ -1,4 +1,4 @@
-use Rattle.std.proofs.Common.{ℕ, ◌/◌, refl, ap, ◌∙◌, arith}
+use Rattle.std.proofs.Common.{ℕ, ◌/◌, ap, ◌∙◌, arith}
 use Rattle.clauses.specs.Watching.{Guards, Watchful}
 use Rattle.clauses.proofs.Guarding.{begun_none, begun_more, same_of, watchful_quiet}
 use Rattle.clauses.proofs.watches.PlacesPropagator.start.Goals as goal
@@ -11,11 +11,11 @@ loop-k-init c =
 
 pub loop-k-preserved : goal.loop-k-preserved
 loop-k-preserved c =
-    let e = c.if-visit.ensures in
-    begun_more c.args.store.now c.args.index.now c.loop-k.index c.visit.new.index c.loop-k.places c.visit.new.places c.args.values.now c.loop-k.values c.visit.new.values c.args.trail.now c.loop-k.trail c.visit.new.trail c.loop-k.k c.loop-k-test.true c.loop-k.invariant e.goes e.ready (e.visited refl) e.room
+    let e = c.in_ok-visit.ensures in
+    begun_more c.args.store.now c.args.index.now c.loop-k.index c.visit.new.index c.loop-k.places c.visit.new.places c.args.values.now c.loop-k.values c.visit.new.values c.args.trail.now c.loop-k.trail c.visit.new.trail c.loop-k.k c.loop-k-test.true c.loop-k.invariant e.goes e.ready e.visited e.room
 
 pub returns : goal.returns
 returns c =
     let b = c.loop-k.invariant in
     let w : Watchful c.args.store.now c.loop-k.index c.loop-k.places c.loop-k.values c.loop-k.trail 0 0 = record { guards = b.guards; spots = b.spots; within = omega arith; ahead = omega arith; rows = λ j lt. b.rows j (omega arith) } in
-    record { goes = b.reached; ready = b.ready; keeps = λ _. w; quiet = λ _. watchful_quiet c.args.store.now c.loop-k.index c.loop-k.places c.loop-k.values c.loop-k.trail 0 b.ready.sound w; serves = ap (λ (n : ℕ). n / 2) (c.loop-k.auto.places ∙ c.forget.auto.places); same = b.same; room = b.room }
+    record { goes = b.reached; ready = b.ready; keeps = w; quiet = watchful_quiet c.args.store.now c.loop-k.index c.loop-k.places c.loop-k.values c.loop-k.trail 0 b.ready.sound w; serves = ap (λ (n : ℕ). n / 2) (c.loop-k.auto.places ∙ c.forget.auto.places); same = b.same; room = b.room }

@@ -20,12 +20,12 @@ loop-link-init c =
 pub loop-link-preserved : goal.loop-link-preserved
 loop-link-preserved c =
     let i = c.loop-link.invariant in
-    let e = c.if-visit.ensures in
+    let e = c.in_ok-visit.ensures in
     let r = get_or c.loop-link.index.owners.now (c.loop-link.link - 1) 0 in
     let rc : r < c.args.store.now.count = i.2.guards.owned (c.loop-link.link - 1) (omega (arith, i.2.within)) in (
       reached_more (held c.args.store.now) (values_of c.args.values.now) (values_of c.loop-link.values) (values_of c.visit.new.values) i.0 e.goes,
       e.ready,
-      watchful_more c.args.store.now c.loop-link.index c.visit.new.index c.loop-link.places c.visit.new.places c.loop-link.values c.visit.new.values c.loop-link.trail c.visit.new.trail (c.args.head + 1) c.loop-link.link r i.1.sound (omega arith) refl rc (e.visited refl) i.2,
+      watchful_more c.args.store.now c.loop-link.index c.visit.new.index c.loop-link.places c.visit.new.places c.loop-link.values c.visit.new.values c.loop-link.trail c.visit.new.trail (c.args.head + 1) c.loop-link.link r i.1.sound (omega arith) refl rc e.visited i.2,
       same_more c.args.index.now c.loop-link.index c.visit.new.index i.3 e.same,
       e.room ∙ i.4,
     )
@@ -34,4 +34,4 @@ pub returns : goal.returns
 returns c =
     let i = c.loop-link.invariant in
     let w = watchful_end _ _ _ _ _ _ _ c.loop-link-test.false i.2 in
-    record { goes = i.0; ready = i.1; keeps = λ _. w; quiet = λ _. watchful_quiet c.args.store.now c.loop-link.index c.loop-link.places c.loop-link.values c.loop-link.trail (c.args.head + 1) i.1.sound w; serves = ap (λ (n : ℕ). n / 2) c.loop-link.auto.places; same = i.3; room = i.4 }
+    record { goes = i.0; ready = i.1; keeps = w; quiet = watchful_quiet c.args.store.now c.loop-link.index c.loop-link.places c.loop-link.values c.loop-link.trail (c.args.head + 1) i.1.sound w; serves = ap (λ (n : ℕ). n / 2) c.loop-link.auto.places; same = i.3; room = i.4 }
