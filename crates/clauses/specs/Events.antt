@@ -1,5 +1,5 @@
 -- What an engine keeps that looks at a clause when a literal of it becomes false.
-use Rattle.std.specs.Prelude.{◌≡◌, ℕ, ◌+◌, ◌-◌, ◌*◌, ◌<◌, ◌≤◌, Bool, true, false, ◌⊎◌, List, length, take, pos, Some, Option, slice_index, slice_index_or}
+use Rattle.std.specs.Prelude.{◌≡◌, ℕ, ◌+◌, ◌-◌, ◌*◌, ◌^◌, ◌<◌, ◌≤◌, Bool, ◌⊎◌, List, length, take, pos, Some, Option, slice_index, slice_index_or}
 use Rattle.text.specs.Literals.{Clause, variable_of, positive}
 use Rattle.clauses.specs.Propagation.{Settled, Reached}
 use Rattle.clauses.specs.Stored.{held}
@@ -28,10 +28,6 @@ pub record Examined (s : Store) (k : ℕ) (xs ys : List (Option Bool)) (t u : Tr
   pub grows : t.tail ≤ u.tail
   pub gap : Gap (values_of xs) (values_of ys) u t.tail
   pub made : (q : ℕ) → t.tail ≤ q → q < u.tail → values_of ys (variable_of (slice_index_or u.literals.now q (pos 0))) ≡ Some (positive (slice_index_or u.literals.now q (pos 0)))
-
-abbrev pub Looked : Store → ℕ → List (Option Bool) → List (Option Bool) → Trail → Trail → Bool → Type 0
-Looked s k xs ys t u true = Unit {0}
-Looked s k xs ys t u false = Examined s k xs ys t u
 
 -- the row r is on the list of the literals with this code
 abbrev pub Listed : Index → ℕ → ℕ → Type 0

@@ -62,7 +62,7 @@ returns-in-Some c =
     let z = c.enlist-in-Some.new.index in
     let g : Spotted s z.used xs (set (set w (2 * k) c.in-Some.first) (2 * k + 1) c.in-Some.second) = second_spots s k c.in-Some.first c.in-Some.second (get_or w (2 * k) 0) (get_or w (2 * k + 1) 0) w c.args.index.now c.enlist.new.index z xs c.args.trail.now ok c.requires.k wide t.0 c.enlist.ensures refl t.2 c.enlist-in-Some.ensures f in
     let v = visited_pair s k c.in-Some.first c.in-Some.second (get_or w (2 * k) 0) (get_or w (2 * k + 1) 0) w c.args.index.now c.enlist.new.index z xs c.args.trail.now ok c.requires.k wide t.0 c.enlist.ensures c.enlist-in-Some.ensures g in
-    record { goes = reached_none _ _; ready = c.requires.ready; visited = λ _. v; same = v.grown.same; room = refl }
+    record { goes = reached_none _ _; ready = c.requires.ready; visited = v; same = v.grown.same; room = refl }
 
 pub returns-in-None : goal.returns-in-None
 returns-in-None c =
@@ -70,7 +70,7 @@ returns-in-None c =
     record {
       goes = e.goes;
       ready = e.ready;
-      visited = λ q. visited_examine c.args.store.now c.args.k c.args.places.now c.args.index.now c.args.values.now c.examine.new.values c.args.trail.now c.examine.new.trail c.clause.result.now c.examine.result q c.clause.ensures c.requires.guards c.requires.spots c.in-None.ensures e.goes e.looked;
+      visited = visited_examine c.args.store.now c.args.k c.args.places.now c.args.index.now c.args.values.now c.examine.new.values c.args.trail.now c.examine.new.trail c.clause.result.now c.examine.result c.clause.ensures c.requires.guards c.requires.spots c.in-None.ensures e.goes e.examined;
       same = same_none c.args.index.now;
       room = e.room;
     }
