@@ -35,7 +35,6 @@ pub trait Propagator: Drop {
         index: &mut Index,
         trail: &mut Trail,
     ) -> Result<(), Conflict>
-        requires few { store.now.count < 2 ^ 32 }
         requires ready { Ready store.now values.old trail.old }
         requires serves { store.now.count ≤ serves self.old }
         requires empty { trail.old.tail ≡ 0 }
@@ -59,7 +58,6 @@ pub trait Propagator: Drop {
         index: &mut Index,
         trail: &mut Trail,
     ) -> Result<(), Conflict>
-        requires few { store.now.count < 2 ^ 32 }
         requires head { head < trail.old.tail }
         requires ready { Ready store.now values.old trail.old }
         requires serves { store.now.count ≤ serves self.old }
@@ -81,7 +79,6 @@ fn drain<E: Propagator>(
     index: &mut Index,
     trail: &mut Trail,
 ) -> Result<(), Conflict>
-    requires few { store.now.count < 2 ^ 32 }
     requires ready { Ready store.now values.old trail.old }
     requires serves { store.now.count ≤ E.serves engine.old }
     requires keeps { E.Keeps store.now index.old engine.old values.old trail.old 0 }
@@ -108,7 +105,6 @@ pub(crate) fn propagate<E: Propagator>(
     index: &mut Index,
     trail: &mut Trail,
 ) -> Result<(), Conflict>
-    requires few { store.now.count < 2 ^ 32 }
     requires ready { Ready store.now values.old.cells.now trail.old }
     requires serves { store.now.count ≤ E.serves engine.old }
     requires empty { trail.old.tail ≡ 0 }

@@ -3,7 +3,7 @@ ghost use Rattle.std.specs.Prelude.{◌≡◌, ℕ, ◌+◌, ◌*◌, ◌/◌, �
 ghost use Rattle.clauses.specs.Cells.{values_of, Placed};
 ghost use Rattle.clauses.specs.Engine.{Advanced, Ready};
 ghost use Rattle.clauses.specs.Events.{clause_at, Same};
-ghost use Rattle.clauses.specs.Stored.{held, Sound};
+ghost use Rattle.clauses.specs.Stored.{held};
 ghost use Rattle.clauses.specs.Watching.{false_at, Enlisted, Found, Guards, Picked, Spotted, TwoOpen, Visited, Watchful};
 
 use crate::index::Index;
@@ -70,8 +70,6 @@ fn two_places(
 /// Puts row k on the list of the literal at this place, if it does not watch the place already.
 fn enlist(store: &Store, k: usize, place: usize, places: &[u32], index: &mut Index)
     requires k { k < store.now.count }
-    requires few { store.now.count < 2 ^ 32 }
-    requires sound { Sound store.now }
     requires place { place < length (clause_at store.now k) }
     requires places { 2 * store.now.count ≤ length places.now }
     requires guards { Guards store.now index.old }
@@ -95,7 +93,6 @@ fn visit(
     trail: &mut Trail,
 ) -> Result<(), Conflict>
     requires k { k < store.now.count }
-    requires few { store.now.count < 2 ^ 32 }
     requires ready { Ready store.now values.old trail.old }
     requires places { 2 * store.now.count ≤ length places.old }
     requires guards { Guards store.now index.old }

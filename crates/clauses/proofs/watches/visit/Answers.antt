@@ -21,7 +21,7 @@ enlist-requires c =
     let ok = c.requires.ready.sound in
     let wide : 2 * k + 1 < length w = omega (arith, c.requires.k, c.requires.places) in
     let t : TwoOpen xs (clause_at s k) (get_or w (2 * k) 0) (get_or w (2 * k + 1) 0) (Some (c.in-Some.first, c.in-Some.second)) = subst (λ (d : Clause). TwoOpen xs d (get_or w (2 * k) 0) (get_or w (2 * k + 1) 0) (Some (c.in-Some.first, c.in-Some.second))) c.clause.ensures c.in-Some.ensures in
-    record { k = c.requires.k; few = c.requires.few; sound = ok; place = t.0.first; places = c.requires.places; guards = c.requires.guards; room = λ a b. spots_room s k c.in-Some.first c.args.index.now.used xs w ok c.requires.k t.0.first t.0.first_open c.requires.spots (⊎_elim a b) }
+    record { k = c.requires.k; place = t.0.first; places = c.requires.places; guards = c.requires.guards; room = λ a b. spots_room s k c.in-Some.first c.args.index.now.used xs w ok c.requires.k t.0.first t.0.first_open c.requires.spots (⊎_elim a b) }
 
 pub overflow_cast-places : goal.overflow_cast-places
 overflow_cast-places c =
@@ -40,7 +40,7 @@ enlist-requires-in-Some c =
     let wide : 2 * k + 1 < length w = omega (arith, c.requires.k, c.requires.places) in
     let t : TwoOpen xs (clause_at s k) (get_or w (2 * k) 0) (get_or w (2 * k + 1) 0) (Some (c.in-Some.first, c.in-Some.second)) = subst (λ (d : Clause). TwoOpen xs d (get_or w (2 * k) 0) (get_or w (2 * k + 1) 0) (Some (c.in-Some.first, c.in-Some.second))) c.clause.ensures c.in-Some.ensures in
     let f : Spotted s c.enlist.new.index.used xs (set w (2 * k) c.in-Some.first) = first_spots s k c.in-Some.first c.in-Some.second (get_or w (2 * k) 0) (get_or w (2 * k + 1) 0) w c.args.index.now c.enlist.new.index c.enlist.new.index xs c.args.trail.now ok c.requires.k wide t.0 c.enlist.ensures refl t.1 c.requires.spots in
-    record { k = c.requires.k; few = c.requires.few; sound = ok; place = t.0.second; places = simp length-set c.requires.places; guards = c.enlist.ensures.guards; room = λ a b. spots_room s k c.in-Some.second c.enlist.new.index.used xs (set w (2 * k) c.in-Some.first) ok c.requires.k t.0.second t.0.second_open f (⊎_elim a b) }
+    record { k = c.requires.k; place = t.0.second; places = simp length-set c.requires.places; guards = c.enlist.ensures.guards; room = λ a b. spots_room s k c.in-Some.second c.enlist.new.index.used xs (set w (2 * k) c.in-Some.first) ok c.requires.k t.0.second t.0.second_open f (⊎_elim a b) }
 
 pub overflow_cast-places-in-Some : goal.overflow_cast-places-in-Some
 overflow_cast-places-in-Some c =

@@ -8,7 +8,6 @@ propagate-requires g c =
     let s = c.close.new.self in
     let ok = c.args.common.now in
     record {
-      few = omega (arith, s.counted, e.kept.rows, ok.store.few);
       ready = record { sound = sound_of s; dense = e.dense; enough = rw e.kept.variables ok.placed; room = omega (arith, unset_most ok.values.cells.now, ok.lasting); named = named_none ok.trail.literals.now s.variables };
       serves = omega (arith, s.counted, e.kept.rows, c.requires.serves);
       empty = refl;
