@@ -25,7 +25,7 @@ pub fn code_against(literal: i32) -> usize
     ensures value { result ≡ code_against literal }
     ensures bound { result ≤ 2 * variable_of literal + 1 }
 {
-    2 * variable(literal) + usize::from(literal >= 0)
+    code_of(literal) ^ 1
 }
 
 /// What a literal is worth.

@@ -10,6 +10,7 @@ mod close;
 mod find;
 
 /// The first `count` rows, over the first `filled` literals.
+// The memory is lent, so how much of it is in use stands beside it.
 #[derive(Drop)]
 pub struct Store<'a> {
     pub rows: &'a mut [Row],

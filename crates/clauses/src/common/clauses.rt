@@ -20,7 +20,7 @@ impl Common<'_> {
         if self.phase != Phase::Idle {
             return Err(BaseFault::InTrial);
         }
-        if variables as usize > self.values.cells.len().saturating_sub(1) {
+        if variables as usize > self.room().variables {
             return Err(BaseFault::NoRoom);
         }
         self.store.clear(variables);
