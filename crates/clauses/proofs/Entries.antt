@@ -9,6 +9,7 @@ use Rattle.clauses.specs.Linked.{Falling, Linked}
 use Rattle.clauses.specs.Events.{clause_at, Listed, Fit, Indexed, Entering}
 use Rattle.clauses.specs.declared.store.Store.{Store}
 use Rattle.clauses.specs.declared.index.Index.{Index}
+use Rattle.clauses.proofs.Memory.{sound_of}
 use Rattle.clauses.proofs.OneRow.{row_named}
 use Rattle.std.proofs.lemmas.Bool.{cases_eq, eq-eqb, ne_eqb}
 use Rattle.clauses.specs.Counting.{Tally, none, hits}
@@ -40,15 +41,15 @@ code_bound l = go (positive l)
 
 pub code_fits : (s : Store) (x : Index) (k j : ℕ) → Fit s x → k < s.count → j < length (clause_at s k) → code_of (get_or (clause_at s k) j (pos 0)) < x.lists
 code_fits s x k j fit lt h =
-    let a : variable_of (get_or (clause_at s k) j (pos 0)) - 1 < s.variables = row_named s k (clause_at s k) refl lt fit.sound j h in
+    let a : variable_of (get_or (clause_at s k) j (pos 0)) - 1 < s.variables = row_named s k (clause_at s k) refl lt (sound_of s) j h in
     omega (arith, code_bound (get_or (clause_at s k) j (pos 0)), fit.heads)
 
 -- there is room for one more entry
 pub entry_fits : (s : Store) (x₀ x : Index) (k i : ℕ) → k < s.count → i < length (clause_at s k) → Entering s x₀ x k i → (x.used < length x.next.now) × (x.used < length x.owners.now) × (x.used + 1 < 2 ^ 32)
 entry_fits s x₀ x k i lt h e =
-    let a : (row_at s.rows.now k).start + (row_at s.rows.now k).len ≤ s.filled = e.fit.sound.spans k lt in
+    let a : (row_at s.rows.now k).start + (row_at s.rows.now k).len ≤ s.filled = s.spans k lt in
     let b : length (clause_at s k) ≤ (row_at s.rows.now k).len = clause_long s k in
-    (omega (arith, e.room, e.fit.next), omega (arith, e.room, e.fit.owners), omega (arith, e.room, e.fit.sound.small))
+    (omega (arith, e.room, e.fit.next), omega (arith, e.room, e.fit.owners), omega (arith, e.room, s.within, s.small))
 
 pub entering_none : (s : Store) (x : Index) (k : ℕ) → k < s.count → Fit s x → Indexed s x k → Entering s x x k 0
 entering_none s x k lt fit h =
@@ -79,7 +80,7 @@ entering_more s x₀ x y k i code lt h is linked used lists heads next owners e 
     let nn : length y.next.now ≡ length x.next.now = ap length next ∙ length-set _ _ _ in
     let on : length y.owners.now ≡ length x.owners.now = ap length owners ∙ length-set _ _ _ in
     record {
-      fit = record { sound = e.fit.sound; linked = linked; next = omega (arith, e.fit.next); owners = omega (arith, e.fit.owners); heads = omega (arith, e.fit.heads); few = e.fit.few };
+      fit = record { linked = linked; next = omega (arith, e.fit.next); owners = omega (arith, e.fit.owners); heads = omega (arith, e.fit.heads) };
       same = record { heads = hn ∙ e.same.heads; next = nn ∙ e.same.next; owners = on ∙ e.same.owners };
       whole = λ r rk j jl. kept _ r (code_fits s x r j e.fit (omega arith) jl) (e.whole r rk j jl);
       part = below_more (λ j. Listed y (code_of (get_or (clause_at s k) j (pos 0))) k) i (λ j ji. kept _ k (code_fits s x k j e.fit lt (omega arith)) (e.part j ji)) (subst (λ (z : ℕ). Listed y z k) is (listed_new x y code k ok cl room.0 room.1 heads next owners));
@@ -94,7 +95,7 @@ entering_all s x₀ x k i lt le ge e =
     record {
       whole = below_more (λ r. (j : ℕ) → j < length (clause_at s r) → Listed x (code_of (get_or (clause_at s r) j (pos 0))) r) k e.whole (λ j jl. e.part j (omega arith));
       owned = e.owned;
-      room = λ r kr rc. omega (arith, e.fit.sound.ordered k r (omega arith) rc, clause_long s k, e.room);
+      room = λ r kr rc. omega (arith, s.ordered k r (omega arith) rc, clause_long s k, e.room);
       tallied = below_more (λ r. (code : ℕ) → code < x.lists → Tally x.next.now x.owners.now r (get_or x.heads.now code 0) (hits code (clause_at s r))) k e.tallied (λ code cl. rw (take_all i (clause_at s k) ge) at (e.some code cl));
     }
 

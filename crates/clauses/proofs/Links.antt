@@ -58,12 +58,6 @@ on_enter next heads n code c e f lt cl le o = go (cases_eq c code)
 pub on_new : (next heads : List ℕ) (n code v : ℕ) → code < length heads → On next (get_or (set heads code (n + 1)) code 0) n
 on_new next heads n code v cl = subst (λ (z : ℕ). On next z n) (sym (get_or-set_same heads code (n + 1) 0 cl ∙ add-one n)) here
 
-pub zeros_push : (xs : List ℕ) (n : ℕ) → n < length xs → ((k : ℕ) → k < n → get_or xs k 0 ≡ 0) → (k : ℕ) → k < n + 1 → get_or (set xs n 0) k 0 ≡ 0
-zeros_push xs n lt h =
-    below_more (λ i. get_or (set xs n 0) i 0 ≡ 0) n
-    (λ i k. let ne : i ≢ n = omega arith in rw (get_or-set_other xs n i 0 0 ne) (h i k))
-    (get_or-set_same xs n 0 0 lt)
-
 pub upto_set : (xs : List ℕ) (n m i v : ℕ) → i < length xs → Upto xs n m → v ≤ m → Upto (set xs i v) n m
 upto_set xs n m i v lt h le k kn = go (cases_eq k i)
   where

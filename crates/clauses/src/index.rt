@@ -4,6 +4,7 @@ ghost use Rattle.clauses.specs.Linked.{Linked};
 
 /// An entry for each place of a literal. A link is an entry's number and one, or 0 at a list's end.
 /// The first `lists` heads are in use, and the first `used` entries.
+// The memory is lent as plain numbers, so an entry's link and owner lie in two slices.
 #[derive(Drop)]
 pub struct Index<'a> {
     pub heads: &'a mut [u32],
@@ -24,9 +25,7 @@ impl Index<'_> {
         ensures next { length self.new.next.now ≡ length self.old.next.now }
         ensures owners { length self.new.owners.now ≡ length self.old.owners.now }
     {
-        for code in 0..lists {
-            self.heads[code] = 0;
-        }
+        self.heads[0..lists].fill(0);
         self.lists = lists;
         self.used = 0;
     }

@@ -8,10 +8,8 @@ push-requires c =
     let e = c.if-not-make_room.ensures in
     let b = e.behind refl in
     record {
-      sound = e.sound;
       row = b.0;
       literals = b.1;
-      small = omega (arith, b.1, e.kept.literals, c.requires.small);
       number = omega (arith, e.next);
       speaks = rw e.kept.variables (formed_speaks c.args.self.now.store.variables c.args.clause.now (holds_from (sym c.if-not-well_formed.ensures)));
     }
