@@ -256,12 +256,6 @@ begun_more s x₀ x y w v xs ys zs t u z k lt b r ready vis room =
     listed p pl (inr (inl e)) = absurd (omega (arith, b.nowhere (2 * k + 1) (omega arith) (omega arith), short))
     listed p pl (inr (inr l)) = l
 
-pub nowhere_more : (w : List ℕ) (i : ℕ) → i < length w → ((k : ℕ) → k < i → get_or w k 0 ≡ 4294967295) → (k : ℕ) → k < i + 1 → get_or (set w i 4294967295) k 0 ≡ 4294967295
-nowhere_more w i lt h =
-    below_more (λ k. get_or (set w i 4294967295) k 0 ≡ 4294967295) i
-    (λ k ki. let ne : k ≢ i = omega arith in rw (get_or-set_other w i k 4294967295 0 ne) (h k ki))
-    (get_or-set_same w i 4294967295 0 lt)
-
 -- the row's two places were written
 places_others : (w : List ℕ) (k p q : ℕ) (j : ℕ) → (j ≡ 2 * k → ⊥) → (j ≡ 2 * k + 1 → ⊥) → get_or (set (set w (2 * k) p) (2 * k + 1) q) j 0 ≡ get_or w j 0
 places_others w k p q j a b = get_or-set_other (set w (2 * k) p) (2 * k + 1) j q 0 b ∙ get_or-set_other w (2 * k) j p 0 a

@@ -4,6 +4,7 @@ ghost use Rattle.clauses.specs.Cells.{values_of, Placed};
 ghost use Rattle.clauses.specs.Counters.{Counted};
 ghost use Rattle.clauses.specs.Counting.{non_false};
 
+use crate::counting::Counters;
 use crate::index::Index;
 use crate::indexing::index_all;
 use crate::literal::{code_against, is_open};
@@ -12,25 +13,16 @@ use crate::propagator::Propagator;
 use crate::store::Store;
 use crate::trail::Trail;
 
-/// A counter for each row, in memory that is lent.
-#[derive(Drop)]
-pub struct Counters<'a> {
-    pub(crate) left: &'a mut [u32],
-}
-
 /// How many literals of the clause are not false.
 fn count_open(clause: &[i32], values: &[Option<bool>]) -> u32
     requires placed { Placed clause.now (length values.now) }
     requires short { length clause.now < 2 ^ 32 }
     ensures { result ≡ non_false (values_of values.now) clause.now }
 {
-    let mut open = 0;
-    for literal in clause {
-        if is_open(values, *literal) {
-            open += 1;
-        }
-    }
-    open
+    clause
+        .iter()
+        .filter(|literal| is_open(values, **literal))
+        .count() as u32
 }
 
 impl Propagator for Counters<'_> {
@@ -71,6 +63,7 @@ impl Propagator for Counters<'_> {
     ) -> Result<(), Conflict> {
         let left = &mut *self.left;
         let mut link = index.heads[code_against(trail.literals[head])];
+        // A list is links in lent memory of plain numbers, so it is no iterator.
         while link != 0 {
             let entry = link as usize - 1;
             link = index.next[entry];

@@ -4,9 +4,14 @@ ghost use Rattle.clauses.specs.Common.{meaning_of};
 ghost use Rattle.clauses.specs.Rooms.{counting_room};
 ghost use Rattle.std.specs.Prelude.{◌≡◌, length};
 
-use crate::counters::Counters;
 use crate::lent::Base;
 use crate::row::Row;
+
+/// A counter for each row, in memory that is lent.
+#[derive(Drop)]
+pub struct Counters<'a> {
+    pub(crate) left: &'a mut [u32],
+}
 
 /// A base over lent memory, with a counter for each row.
 pub type Counting<'a> = Base<'a, Counters<'a>>;

@@ -6,7 +6,12 @@ ghost use Rattle.std.specs.Prelude.{◌≡◌, length};
 
 use crate::lent::Base;
 use crate::row::Row;
-use crate::watches::Places;
+
+/// Two watched places for each row, in memory that is lent.
+#[derive(Drop)]
+pub struct Places<'a> {
+    pub(crate) at: &'a mut [u32],
+}
 
 /// A base over lent memory, with two watched places for each row.
 pub type Watched<'a> = Base<'a, Places<'a>>;

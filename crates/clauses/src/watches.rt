@@ -12,14 +12,9 @@ use crate::look::{Conflict, examine};
 use crate::propagator::Propagator;
 use crate::store::Store;
 use crate::trail::Trail;
+use crate::watched::Places;
 
-/// Two watched places for each row, in memory that is lent.
-#[derive(Drop)]
-pub struct Places<'a> {
-    pub(crate) at: &'a mut [u32],
-}
-
-/// No place of a clause.
+/// No place of a clause: the lent cells are plain numbers, with no room for an `Option`.
 const NOWHERE: u32 = 4_294_967_295;
 
 /// The first place of the clause, but for `avoid`, whose literal is not false.
@@ -27,15 +22,7 @@ fn open_place(clause: &[i32], values: &[Option<bool>], avoid: usize) -> Option<u
     requires { Placed clause.now (length values.now) }
     ensures { Found values.now clause.now avoid result }
 {
-    for i in 0..clause.len() {
-        if i == avoid {
-            continue;
-        }
-        if is_open(values, clause[i]) {
-            return Some(i);
-        }
-    }
-    None
+    (0..clause.len()).find(|i| *i != avoid && is_open(values, clause[*i]))
 }
 
 /// The old place, if its literal is not false, or else the first such place; but not `avoid`.
@@ -122,7 +109,10 @@ fn forget(places: &mut [u32], count: usize)
     requires { count ≤ length places.old }
     ensures { (k : ℕ) → k < count → slice_index places.new k ≡ 4294967295 }
 {
-    places[..count].fill(NOWHERE);
+    // With `fill`, a run took a fifteenth longer.
+    for i in 0..count {
+        places[i] = NOWHERE;
+    }
 }
 
 impl Propagator for Places<'_> {
@@ -163,6 +153,7 @@ impl Propagator for Places<'_> {
     ) -> Result<(), Conflict> {
         let places = &mut *self.at;
         let mut link = index.heads[code_against(trail.literals[head])];
+        // A list is links in lent memory of plain numbers, so it is no iterator.
         while link != 0 {
             let entry = link as usize - 1;
             link = index.next[entry];
