@@ -13,7 +13,7 @@ use Rattle.clauses.specs.Rows.{row_at}
 use Rattle.clauses.specs.Stored.{held}
 use Rattle.clauses.specs.Finding.{Found, TakenOut}
 use Rattle.clauses.specs.Events.{clause_at}
-use Rattle.clauses.specs.Common.{trial_of, room_of, meaning_of, Sane, Steady}
+use Rattle.clauses.specs.Common.{trial_of, room_of, meaning_of, Steady}
 use Rattle.clauses.specs.Trying.{Followed}
 use Rattle.clauses.specs.declared.common.Common.{Common}
 use Rattle.clauses.specs.declared.store.Store.{Store}
@@ -32,10 +32,6 @@ meaning_is d m v l n r t = rw (v, l, n, r, t)
 
 pub room_same : (c d : Common) → Steady c d → room_of d ≡ room_of c
 room_same c d s = rw (s.rows, s.literals, s.cells)
-
--- the parts fit together
-pub sane_of : (c : Common) → Sane c
-sane_of c = record { sound = sound_of c.store; placed = c.placed; lasting = c.lasting; few = c.store.few; small = c.store.small }
 
 pub deleted : (c d : Common) (n k : ℕ) → c.phase ≡ Idle → k < c.store.count → (row_at c.store.rows.now k).number ≡ n → (row_at c.store.rows.now k).live ≡ true → TakenOut c.store d.store k → d.values.cells.now ≡ c.values.cells.now → d.phase ≡ c.phase → Steady c d → Deletes (meaning_of c) n (Ok tt) (meaning_of d)
 deleted c d n k p lt num live t cells phase s =
