@@ -64,8 +64,8 @@ module _ (rows : List Row) (k : ℕ) (lt : k < length rows) where
       go (inl q) = rw (q, get_or-set_same rows k (dead (row_at rows k)) no_row lt) e
       go (inr q) = ap f (get_or-set_other rows k j (dead (row_at rows k)) no_row q)
 
-  pub counted-dead : (count : ℕ) → count ≤ length rows → count ≤ length (set rows k (dead (row_at rows k)))
-  counted-dead count h = simp length-set h
+  pub long-dead : length (set rows k (dead (row_at rows k))) ≡ length rows
+  long-dead = length-set _ _ _
 
   pub spans-dead : (count filled : ℕ) → Spans rows count filled → Spans (set rows k (dead (row_at rows k))) count filled
   spans-dead count filled h j jc = omega (arith, same (λ q. q.start) refl j, same (λ q. q.len) refl j, h j jc)

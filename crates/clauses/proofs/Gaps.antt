@@ -28,24 +28,6 @@ get_d_on xs ys n k d le h =
 pub stretch_long : (lits : List ℤ) (start len : ℕ) → start + len ≤ length lits → length (take len (drop start lits)) ≡ len
 stretch_long lits start len h = length-take-le len (drop start lits) (omega (arith, length-drop start lits))
 
-pub closing_none : (s t : Store) → t.rows.now ≡ s.rows.now → t.literals.now ≡ s.literals.now → t.count ≡ 0 → t.filled ≡ 0 → t.variables ≡ s.variables → t.next ≡ s.next → Closing s.rows.now s.literals.now s.count s.next s.variables t 0
-closing_none s t r l k f v n =
-    record {
-      behind = rw r;
-      beyond = rw l;
-      long = ap length r;
-      wide = ap length l;
-      variables' = v;
-      next' = n;
-      few = omega arith;
-      above = λ j h q. omega arith;
-      lower = λ i j h q w. absurd (omega arith);
-      clauses = rw k;
-      dense = λ j h. absurd (omega arith);
-      count = rw k;
-      filled = rw (k, f);
-    }
-
 -- the row at k is next
 module _ (s t : Store) (k : ℕ) (lt : k < s.count) (cl : Closing s.rows.now s.literals.now s.count s.next s.variables t k) where
   pub row_kept : row_at t.rows.now k ≡ row_at s.rows.now k

@@ -5,7 +5,7 @@ use Rattle.std.proofs.ByRecursion.{All-from_get_or}
 use Rattle.std.proofs.lemmas.Bool.{cases_lt}
 use Rattle.std.specs.List.{AllByRecursion}
 use Rattle.text.specs.Literals.{Clause, variable_of}
-use Rattle.clauses.specs.Rows.{no_row, row_at, span, held_in, Spans, Rising, Named, Ordered, Under, Dense}
+use Rattle.clauses.specs.Rows.{no_row, row_at, span, held_in, Spans, Named, Dense}
 use Rattle.clauses.specs.Stored.{held}
 use Rattle.clauses.specs.Growth.{Speaks, Copied, Sealed}
 use Rattle.clauses.specs.declared.row.Row.{Row}
@@ -19,30 +19,6 @@ module _ (rows : List Row) (n : ℕ) (r : Row) (lt : n < length rows) where
 
   pub row_new : row_at (set rows n r) n ≡ r
   row_new = get_or-set_same rows n r no_row lt
-
-  spans_push : (f g : ℕ) → Spans rows n f → f ≤ g → r.start + r.len ≤ g → Spans (set rows n r) (n + 1) g
-  spans_push f g h le here =
-      below_more (λ k. (row_at (set rows n r) k).start + (row_at (set rows n r) k).len ≤ g) n
-      (λ k kn. rw (row_old k kn) (omega (arith, h k kn)))
-      (rw row_new here)
-
-  ordered_push : (f : ℕ) → Ordered rows n → Spans rows n f → f ≤ r.start → Ordered (set rows n r) (n + 1)
-  ordered_push f h s le j k jk kn = go (cases_lt k n)
-    where
-      go : (k < n) ⊎ (n ≤ k) → (row_at (set rows n r) j).start + (row_at (set rows n r) j).len ≤ (row_at (set rows n r) k).start
-      go (inl q) = rw (row_old j (omega arith), row_old k q) (h j k jk q)
-      go (inr q) = let e : k ≡ n = omega arith in rw (e, row_new, row_old j (omega arith)) (omega (arith, s j (omega arith)))
-
-  rising_push : Rising rows n → Under rows n r.number → Rising (set rows n r) (n + 1)
-  rising_push h up j k jk kn = go (cases_lt k n)
-    where
-      go : (k < n) ⊎ (n ≤ k) → (row_at (set rows n r) j).number < (row_at (set rows n r) k).number
-      go (inl q) = rw (row_old j (omega arith), row_old k q) (h j k jk q)
-      go (inr q) = let e : k ≡ n = omega arith in rw (e, row_new, row_old j (omega arith)) (up j (omega arith))
-
-  under_push : (m : ℕ) → Under rows n m → r.number < m → Under (set rows n r) (n + 1) m
-  under_push m h here =
-      below_more (λ k. (row_at (set rows n r) k).number < m) n (λ k kn. rw (row_old k kn) (h k kn)) (rw row_new here)
 
   pub dense_push : Dense rows n → r.live ≡ true → Dense (set rows n r) (n + 1)
   dense_push h here =

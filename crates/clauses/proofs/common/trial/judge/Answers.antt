@@ -4,10 +4,6 @@ use Rattle.clauses.proofs.OneRow.{row_placed, row_literal}
 use Rattle.clauses.proofs.Commons.{judged_conflict, judged_forced, judged_other}
 use Rattle.clauses.proofs.common.trial.judge.Goals as goal
 
-pub status_of-requires : goal.status_of-requires
-status_of-requires c =
-    row_placed c.args.store.now c.args.k _ c.clause.ensures c.requires.k (sound_of c.args.store.now) _ c.requires.placed
-
 pub assign-requires : goal.assign-requires
 assign-requires c =
     omega (arith, row_literal c.args.store.now c.args.k _ c.clause.ensures c.requires.k (sound_of c.args.store.now) _ c.in-Forced.literal (search rules) c.in-Forced.ensures, c.requires.placed)

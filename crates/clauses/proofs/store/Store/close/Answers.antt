@@ -1,10 +1,7 @@
-use Rattle.std.proofs.Common.{length, refl, ap, arith}
-use Rattle.clauses.proofs.Gaps.{closing_none, row_above, next_under, next_low, next_named, closing_dead, closing_live, closing_all}
+use Rattle.std.proofs.Common.{arith}
+use Rattle.clauses.proofs.Gaps.{row_above, next_under, next_low, next_named, closing_dead, closing_live, closing_all}
 use Rattle.clauses.proofs.store.Store.close.Goals as goal
 use Rattle.clauses.proofs.store.Store.close.Goals.{then-row, else-row}
-
-pub loop-k-init : goal.loop-k-init
-loop-k-init c = closing_none c.args.self.now _ refl refl refl refl refl refl
 
 pub move_down-requires : goal.move_down-requires
 move_down-requires c =
@@ -13,21 +10,26 @@ move_down-requires c =
     let a = row_above s c.loop-k.self c.loop-k.k c.loop-k-test.true i in
     record { from = a.0; within = omega (arith, a.1, s.within, i.wide) }
 
-pub seal-requires : goal.seal-requires
-seal-requires c =
+pub seal-requires-clause-literals : goal.seal-requires-clause-literals
+seal-requires-clause-literals c =
     let i = c.loop-k.invariant in
     let s = c.args.self.now in
-    let t = c.loop-k.self in
-    let k = c.loop-k.k in
     let e = c.move_down.ensures in
-    let a = row_above s t k c.loop-k-test.true i in
-    record {
-      row = omega (arith, e.count, ap length e.rows, i.few, i.long, s.counted);
-      literals = omega (arith, e.filled, e.long, i.wide, a.0, a.1, s.within);
-      above = rw (e.rows, e.count) (next_under s t k c.loop-k-test.true i);
-      next = rw e.next (next_low s t k c.loop-k-test.true i);
-      named = next_named s t k c.loop-k-test.true i c.move_down.new.self e;
-    }
+    let a = row_above s c.loop-k.self c.loop-k.k c.loop-k-test.true i in
+    omega (arith, e.filled, e.long, i.wide, a.0, a.1, s.within)
+
+pub seal-requires-clause-above : goal.seal-requires-clause-above
+seal-requires-clause-above c =
+    let e = c.move_down.ensures in
+    rw (e.rows, e.count) (next_under c.args.self.now c.loop-k.self c.loop-k.k c.loop-k-test.true c.loop-k.invariant)
+
+pub seal-requires-clause-next : goal.seal-requires-clause-next
+seal-requires-clause-next c =
+    rw c.move_down.ensures.next (next_low c.args.self.now c.loop-k.self c.loop-k.k c.loop-k-test.true c.loop-k.invariant)
+
+pub seal-requires-clause-named : goal.seal-requires-clause-named
+seal-requires-clause-named c =
+    next_named c.args.self.now c.loop-k.self c.loop-k.k c.loop-k-test.true c.loop-k.invariant c.move_down.new.self c.move_down.ensures
 
 pub loop-k-preserved : goal.loop-k-preserved
 loop-k-preserved c =
