@@ -1,6 +1,5 @@
 pub mod Again
 pub mod Agreement
-pub mod Answering
 pub mod Checked
 pub mod Closing
 pub mod Concluding

@@ -1,5 +1,5 @@
 -- The ways through the readers of constraints.
-use Rattle.std.proofs.Common.{◌≡◌, ℕ, ◌-◌, ◌<◌, ◌≤◌, Bool, true, false, cond, eqb, ◌⊎◌, List, length, take, drop, IfSome, Some, None, Option, sym, refl, ap, ◌∙◌, arith}
+use Rattle.std.proofs.Common.{◌≡◌, ℕ, ◌-◌, ◌≤◌, Bool, true, false, cond, eqb, List, length, take, drop, IfSome, Some, None, Option, sym, refl, ap, ◌∙◌, arith}
 use Rattle.std.proofs.lemmas.List.{take_rest}
 use Rattle.std.proofs.lemmas.Bool.Decides.{nat_tests}
 use Rattle.std.specs.Option.{option_map}
@@ -39,12 +39,6 @@ named_at : (inner rest : List ℕ) (n : ℕ) → n ≡ name_len inner → (n ≡
 named_at inner rest n m z u b =
     let x : named inner ≡ related (take n inner) (unled (drop n inner)) = rw m (grind (arith, nat_tests)) in
     x ∙ rw (b, take_rest inner n) refl
-
-pub none_at : (text : List ℕ) (part word : Word) (inner : List ℕ) (n : ℕ) → inner ≡ word_in text word → word_in text word ≡ trimmed (word_in text part) → n ≡ name_len inner → (n ≡ 0) ⊎ (64 < n) → constraint (word_in text part) ≡ None
-none_at text part word inner n i t m z =
-    let e : inner ≡ trimmed (word_in text part) = i ∙ t in
-    let x : named inner ≡ None = grind (arith, nat_tests) in
-    ap named (sym e) ∙ x
 
 -- the constraint of a part, by the row that was made
 pub constraint_at : (text : List ℕ) (part word : Word) (last : Bool) (inner rest : List ℕ) (n : ℕ) (o : Option ConstraintRow) → inner ≡ word_in text word → word_in text word ≡ trimmed (word_in text part) → Inside (length text) word → n ≡ name_len inner → n ≤ length inner → (n ≡ 0 → ⊥) → n ≤ 64 → rest ≡ unled (take (length inner - n) (drop n inner)) → o ≡ related_to (record { start = word.start; len = n }) last rest → IfSome o (λ c. (c.name ≡ record { start = word.start; len = n }) × (c.version ≤ 999999) × (c.last ≡ last)) → Reads text part last o

@@ -80,11 +80,7 @@ pub(crate) fn read_version(text: &[u8]) -> Option<u32>
     ensures value { result ≡ version text.now }
     ensures within { IfSome result (λ n. (1 ≤ n) × (n ≤ 999999)) }
 {
-    let n = decimal(text, 9)?;
-    if n == 0 || n > VERSION_MOST {
-        return None;
-    }
-    Some(n)
+    decimal(text, 9).filter(|n| (1..=VERSION_MOST).contains(n))
 }
 
 /// Reads the constraint of a part of the document; `last` says whether its conjunct ends with it.

@@ -1,5 +1,5 @@
 //! The rows that a problem is read into: numbers alone, so that they can lie in lent memory.
-ghost use Rattle.std.specs.Prelude.{◌≡◌};
+ghost use Rattle.std.specs.Prelude.{◌≡◌, ◌&&◌, ◌==◌};
 ghost use Rattle.std.specs.Str.{bytes_eq};
 ghost use Rattle.text.specs.Word.{word_in};
 
@@ -51,6 +51,13 @@ impl PackageRow {
         ensures { result ≡ bytes_eq name.now (word_in text.now self.now.name) }
     {
         same_bytes(name, bytes_of(text, self.name))
+    }
+
+    /// Whether the row has this name, in the document, and this version.
+    pub(crate) fn is_stanza(&self, text: &[u8], name: &[u8], version: u32) -> bool
+        ensures { result ≡ (bytes_eq name.now (word_in text.now self.now.name) && version == self.now.version) }
+    {
+        self.is_named(text, name) && version == self.version
     }
 }
 
