@@ -97,9 +97,10 @@ pub(crate) fn read_list(
     settle(read, first, line.number, out)
 }
 
+// Apart from `read_list`: one function for both would take the reading as a closure that changes the rows, and its
+// contract would say of the closure what `Stores` and `Grown` say here.
+
 /// Reads a list of conjuncts after the rows, unless its stanza has one already.
-// Apart from `read_list`: in one function for both, the reading would be a closure that changes the rows, with a contract
-// as long as these two functions.
 pub(crate) fn read_depends(
     line: &PropertyLine<'_>,
     already: Option<Span>,

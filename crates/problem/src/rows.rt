@@ -18,6 +18,9 @@ pub enum Relation {
     AtMost,
 }
 
+// A name and a run are a start and a length, and no slices: rows lie in lent memory of plain numbers, and that every name
+// lies in its document is a promise to callers, which a slice could not state.
+
 /// A run of constraint rows.
 #[derive(Clone, Copy)]
 pub struct Span {
@@ -70,8 +73,8 @@ pub const NO_PACKAGE: PackageRow = PackageRow {
     name: Word { start: 0, len: 0 },
     version: 0,
     installed: false,
-    depends: Span { first: 0, len: 0 },
-    conflicts: Span { first: 0, len: 0 },
+    depends: NO_SPAN,
+    conflicts: NO_SPAN,
 };
 
 /// What stands in a place without a constraint.
