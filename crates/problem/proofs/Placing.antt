@@ -45,10 +45,6 @@ or_all n m h =
 pub span_position : (t : ℕ → Bool) (xs : List ℕ) → unwrap_or (position (λ x. not (t x)) xs) (length xs) ≡ span t xs
 span_position t xs = ap (λ n. unwrap_or (cond (ltb n (length xs)) (Some n) None) (length xs)) (counted_alike t xs) ∙ or_all (span t xs) (length xs) (span_within t xs)
 
--- past an operator, with what was read of the version
-pub related_at : (w : Word) (last : Bool) (rest v : List ℕ) (rel : Relation) (n : ℕ) (o : Option ℕ) → eqb (length rest) 0 ≡ false → Some (rel, n) ≡ operator rest → v ≡ unled (take (length rest - n) (drop n rest)) → o ≡ version v → asks w last rel o ≡ related_to w last rest
-related_at w last rest v rel n o e p q r = rw (e, ← p, r, q, take_rest rest n) refl
-
 -- a row in words
 asks_words : (text : List ℕ) (w : Word) (last : Bool) (rel : Relation) (o : Option ℕ) → option_map (constraint_of text) (asks w last rel o) ≡ asked (word_in text w) rel o
 asks_words text w last rel None = refl

@@ -1,16 +1,15 @@
 -- One turn of a loop that puts constraints into rows.
-use Rattle.std.proofs.Common.{◌≡◌, ℕ, min, Bool, true, false, cond, ltb, List, [], ◌∷◌, map, length, is_err, Some, None, Ok, Err, MatchBool, Option, Result, sym, refl, ap, ◌∙◌, arith}
+use Rattle.std.proofs.Common.{◌≡◌, ℕ, min, Bool, true, false, cond, ltb, List, [], ◌∷◌, map, length, is_err, Some, Ok, Err, MatchBool, Option, Result, sym, refl, ap, ◌∙◌, arith}
 use Rattle.std.proofs.lemmas.List.{map_push, length-map}
 use Rattle.std.proofs.lemmas.Bool.{lt-ltb, le-ltb}
 use Rattle.std.specs.Result.{result_and}
 use Rattle.text.specs.Left.{left, Takes}
-use Rattle.text.specs.Pieces.{pieces}
 use Rattle.text.specs.Rows.{items, room, Same, Pushes}
 use Rattle.text.specs.Word.{word_in}
 use Rattle.text.specs.declared.parts.Parts.{Parts}
 use Rattle.text.specs.declared.rows.Rows.{Rows}
 use Rattle.text.specs.declared.word.Word.{Word}
-use Rattle.problem.specs.ConstraintLists.{Kept, asked_of, kept, limit_of, put, is_nil, stored, stored_all, Stores, then}
+use Rattle.problem.specs.ConstraintLists.{Kept, asked_of, kept, limit_of, put, is_nil, stored}
 use Rattle.problem.proofs.Growing.{grown_push, grown_then}
 use Rattle.problem.specs.Growth.{Grown}
 use Rattle.problem.specs.Meaning.{constraint_of}
@@ -62,25 +61,3 @@ turn_kept text e r s f d g P Q w c o z l inv tk dn rd p m = (
   ap (λ x. x.now) tk.1 ∙ inv.1,
   grown_then text e r s inv.2 (grown_push text r s c o rd.2 p m),
 )
-
--- a turn of the loop over conjuncts
-conjuncts_step : (text : List ℕ) (limit : ℕ) (k : Kept) (P Q : Parts) (w : Word) (o : Option Kept) (z : Option Kept) → P.text.now ≡ text → Takes P Q (Some w) → stored limit k (pieces 124 (word_in text w)) ≡ o → stored_all limit k (left P) ≡ z → then o (λ m. stored_all limit m (left Q)) ≡ z
-conjuncts_step text limit k P Q w o z t tk st h =
-    let a : stored limit k (pieces 124 (word_in P.text.now w)) ≡ o = ap (λ x. stored limit k (pieces 124 (word_in x w))) t ∙ st in
-    let b : stored_all limit k (word_in P.text.now w ∷ left Q) ≡ then o (λ m. stored_all limit m (left Q)) = rw a refl in
-    sym b ∙ ap (stored_all limit k) (sym tk.0) ∙ h
-
-pub conjuncts_turn : {U F : Type 0} (text : List ℕ) (e r s : Rows ConstraintRow) (f : Bool) (o : Result U F) (P Q : Parts) (w : Word) (z : Option Kept) → P.text.now ≡ text → room r ≡ room e → Takes P Q (Some w) → Stores text (stored (limit_of r) (kept text r f) (pieces 124 (word_in text w))) (Some o) s → stored_all (limit_of e) (kept text r f) (left P) ≡ z → stored_all (limit_of e) (kept text s (is_err o)) (left Q) ≡ z
-conjuncts_turn text e r s f o P Q w z t m tk st h =
-    let l : limit_of r ≡ limit_of e = ap (min 1024) m in
-    conjuncts_step text (limit_of e) (kept text r f) P Q w (Some (kept text s (is_err o))) z t tk (rw l at st) h
-
-pub conjuncts_bad : {U F : Type 0} (text : List ℕ) (e r s : Rows ConstraintRow) (f : Bool) (o : Option (Result U F)) (P Q : Parts) (w : Word) (z : Option Kept) → o ≡ None → P.text.now ≡ text → room r ≡ room e → Takes P Q (Some w) → Stores text (stored (limit_of r) (kept text r f) (pieces 124 (word_in text w))) o s → stored_all (limit_of e) (kept text r f) (left P) ≡ z → z ≡ None
-conjuncts_bad text e r s f (Some x) P Q w z i t m tk st h = absurd (let y : ◌≡◌ {A = ℕ} 0 1 = cc in omega arith)
-conjuncts_bad text e r s f None P Q w z i t m tk st h =
-    let l : limit_of r ≡ limit_of e = ap (min 1024) m in
-    sym (conjuncts_step text (limit_of e) (kept text r f) P Q w None z t tk (rw l at st) h)
-
-pub stores_none : {U F : Type 0} (text : List ℕ) (z : Option Kept) (o : Option (Result U F)) (r : Rows ConstraintRow) → o ≡ None → z ≡ None → Stores text z o r
-stores_none text z None r e h = h
-stores_none text z (Some b) r e h = absurd (let x : ◌≡◌ {A = ℕ} 0 1 = cc in omega arith)

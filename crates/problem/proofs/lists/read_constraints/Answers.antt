@@ -1,10 +1,6 @@
-use Rattle.std.proofs.Common.{is_err, refl, sym, ap, ◌∙◌}
-use Rattle.problem.proofs.Growing.{grown_none}
+use Rattle.std.proofs.Common.{is_err, sym, ap, ◌∙◌}
 use Rattle.problem.proofs.Storing.{turn_kept, lost_and}
 use Rattle.problem.proofs.lists.read_constraints.Goals as goal
-
-pub loop-piece-init : goal.loop-piece-init
-loop-piece-init c = (refl, c.new-parts.ensures.text, grown_none c.args.text.now c.args.out.now)
 
 pub loop-piece-preserved : goal.loop-piece-preserved
 loop-piece-preserved c =
