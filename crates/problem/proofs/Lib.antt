@@ -1,8 +1,6 @@
 pub mod Again
 pub mod Agreement
-pub mod Answering
 pub mod Checked
-pub mod Closing
 pub mod Concluding
 pub mod Conjuncts
 pub mod Denials
@@ -11,7 +9,6 @@ pub mod Feeds
 pub mod Few
 pub mod Finding
 pub mod Growing
-pub mod Holding
 pub mod Lining
 pub mod Listing
 pub mod Meets
@@ -19,7 +16,6 @@ pub mod Names
 pub mod Numbers
 pub mod Passing
 pub mod Placing
-pub mod Spans
 pub mod Storing
 pub mod Walks
 pub mod Worked

@@ -13,6 +13,7 @@ mod lines;
 mod lists;
 pub mod plan_check;
 pub mod plan_clauses;
+mod property_line;
 pub mod read;
 mod repeats;
 pub mod rows;
