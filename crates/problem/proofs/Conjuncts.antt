@@ -1,5 +1,6 @@
 -- The first conjunct of constraint rows, and the others.
-use Rattle.std.proofs.Common.{◌≡◌, ℕ, suc, ◌+◌, ◌-◌, ◌<◌, ◌≤◌, Bool, true, false, cond, List, [], ◌∷◌, ◌++◌, length, get_or, take, drop, sym, refl, ap, ◌∙◌, subst, arith}
+use Rattle.std.proofs.Common.{◌≡◌, ℕ, suc, ◌+◌, ◌-◌, ◌<◌, ◌≤◌, Bool, true, false, cond, List, [], ◌∷◌, ◌++◌, length, get_or, take, drop, Ok, Err, sym, refl, ap, ◌∙◌, subst, arith}
+use Rattle.std.specs.Result.{IsErr}
 use Rattle.std.proofs.lemmas.List.{at_drop_more, at_drop_all, drop-drop, drop_all, length-drop, take_rest}
 use Rattle.text.specs.Literals.{Clause}
 use Rattle.text.specs.Lists.{each_all}
@@ -7,7 +8,8 @@ use Rattle.problem.specs.Feeding.{Fed, Left}
 use Rattle.problem.specs.Meaning.{front, conjuncts}
 use Rattle.problem.specs.Stanzas.{conjunct_len}
 use Rattle.problem.specs.declared.rows.ConstraintRow.{ConstraintRow}
-use Rattle.problem.proofs.Feeds.{left_more, left_stop, left_all}
+use Rattle.problem.specs.declared.sink.Stopped.{Stopped}
+use Rattle.problem.proofs.Feeds.{Taken, left_more, left_stop, left_all}
 
 -- a row in front of the first conjunct
 abbrev Longer : ConstraintRow → List ConstraintRow → Type 0
@@ -56,12 +58,12 @@ module _ {S : Type 0} (goes stops : S → Clause → S → Type 0) (f : List Con
       ∙ ap (λ ys. ys ∷ conjuncts (drop n (drop i cs))) (sym g) ∙ ap (λ ys. xs ∷ conjuncts ys) (drop-drop n i cs) in
       subst (λ gs. Left goes stops whole start (each_all f gs) s) z k
 
-  pub conjuncts-more : Fed goes stops (f xs) true s t → Left goes stops whole start (each_all f (conjuncts (drop (i + n) cs))) t
+  pub conjuncts-more : Fed goes stops (f xs) (Ok tt) s t → Left goes stops whole start (each_all f (conjuncts (drop (i + n) cs))) t
   conjuncts-more = left_more goes stops whole (f xs) (each_all f (conjuncts (drop (i + n) cs))) start s t stepped
 
-  pub conjuncts-stop : Fed goes stops (f xs) false s t → Fed goes stops whole false start t
-  conjuncts-stop = left_stop goes stops whole (f xs) (each_all f (conjuncts (drop (i + n) cs))) start s t stepped
+  pub conjuncts-stop : (e : Stopped) (r : Taken) → IsErr r → Fed goes stops (f xs) (Err e) s t → Fed goes stops whole r start t
+  conjuncts-stop e r = left_stop goes stops whole (f xs) (each_all f (conjuncts (drop (i + n) cs))) e r start s t stepped
 
 pub conjuncts_all : {S : Type 0} (goes stops : S → Clause → S → Type 0) (f : List ConstraintRow → List Clause) (whole : List Clause) (start s : S) (cs : List ConstraintRow) (i : ℕ) → length cs ≤ i →
-    Left goes stops whole start (each_all f (conjuncts (drop i cs))) s → Fed goes stops whole true start s
+    Left goes stops whole start (each_all f (conjuncts (drop i cs))) s → Fed goes stops whole (Ok tt) start s
 conjuncts_all goes stops f whole start s cs i l k = left_all goes stops whole start s (subst (λ ys. Left goes stops whole start (each_all f (conjuncts ys)) s) (drop_all i cs l) k)

@@ -1,16 +1,16 @@
 //! The clauses of a package's dependencies.
 ghost use Rattle.std.specs.Prelude.{◌≡◌, suc, ◌<◌, ◌≤◌, length};
 ghost use Rattle.text.specs.Lists.{each_all};
-ghost use Rattle.text.specs.Rows.{room};
 ghost use Rattle.problem.specs.Feeding.{Fed};
 ghost use Rattle.problem.specs.Meaning.{conjuncts};
 ghost use Rattle.problem.specs.PlanClauses.{needs};
 ghost use Rattle.problem.specs.Stanzas.{row_satisfies_one, passing, conjunct_len};
 
-use super::literals::{write_met, write_out};
+use super::literals::{no, put, write_met};
 use crate::rows::{ConstraintRow, PackageRow};
 use crate::satisfy::satisfies_one;
-use crate::sink::ClauseSink;
+use crate::sink::{ClauseSink, Stopped};
+use crate::view::PACKAGES_MOST;
 use text::rows::Rows;
 
 /// The clause of a conjunct of the package at `place`; none if that package meets it itself.
@@ -19,22 +19,20 @@ fn feed_conjunct<S: ClauseSink>(
     packages: &[PackageRow],
     place: usize,
     group: &[ConstraintRow],
-    clause: &mut Rows<'_, i32>,
     sink: &mut S,
-) -> bool
+) -> Result<(), Stopped>
     requires place { place < length packages.now }
     requires few { length packages.now ≤ 256 }
-    requires fits { 256 ≤ room clause.old }
-    ensures fed { Fed S.goes S.stops (needs (suc place) (passing (row_satisfies_one text.now group.now) 0 packages.now)) result sink.old sink.new }
-    ensures room { room clause.new ≡ room clause.old }
+    ensures { Fed S.goes S.stops (needs (suc place) (passing (row_satisfies_one text.now group.now) 0 packages.now)) result sink.old sink.new }
 {
     if satisfies_one(text, group, &packages[place]) {
-        return true;
+        return Ok(());
     }
-    clause.clear();
-    write_met(text, &packages[0..place], 0, group, clause);
-    write_out(clause, place);
-    write_met(text, &packages[place + 1..], place + 1, group, clause);
+    let mut memory = [0; PACKAGES_MOST];
+    let mut clause = Rows::new(&mut memory, 0);
+    write_met(text, &packages[0..place], 0, group, &mut clause);
+    put(&mut clause, no(place));
+    write_met(text, &packages[place + 1..], place + 1, group, &mut clause);
     sink.take(clause.as_slice())
 }
 
@@ -58,23 +56,18 @@ pub(super) fn feed_depends<S: ClauseSink>(
     packages: &[PackageRow],
     place: usize,
     depends: &[ConstraintRow],
-    clause: &mut Rows<'_, i32>,
     sink: &mut S,
-) -> bool
+) -> Result<(), Stopped>
     requires place { place < length packages.now }
     requires few { length packages.now ≤ 256 }
-    requires fits { 256 ≤ room clause.old }
-    ensures fed { Fed S.goes S.stops (each_all (λ cs. needs (suc place) (passing (row_satisfies_one text.now cs) 0 packages.now)) (conjuncts depends.now)) result sink.old sink.new }
-    ensures room { room clause.new ≡ room clause.old }
+    ensures { Fed S.goes S.stops (each_all (λ cs. needs (suc place) (passing (row_satisfies_one text.now cs) 0 packages.now)) (conjuncts depends.now)) result sink.old sink.new }
 {
     let mut start = 0;
     while start < depends.len() {
         let rest = &depends[start..];
         let len = conjunct_len(rest);
-        if !feed_conjunct(text, packages, place, &rest[0..len], clause, sink) {
-            return false;
-        }
+        feed_conjunct(text, packages, place, &rest[0..len], sink)?;
         start += len;
     }
-    true
+    Ok(())
 }

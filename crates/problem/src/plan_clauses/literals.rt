@@ -1,4 +1,4 @@
-//! Literals at the end of a clause.
+//! The literals of packages, and clauses of them.
 ghost use Rattle.std.specs.Prelude.{◌≡◌, suc, ◌+◌, ◌<◌, ◌≤◌, [], ◌∷◌, ◌++◌, length};
 ghost use Rattle.text.specs.Lists.{each};
 ghost use Rattle.text.specs.Literals.{lit, neg};
@@ -9,24 +9,29 @@ use crate::rows::{ConstraintRow, PackageRow};
 use crate::satisfy::satisfies_one;
 use text::rows::Rows;
 
-/// Puts at the end of a clause that the package at a place is installed.
-fn write_in(clause: &mut Rows<'_, i32>, place: usize)
-    requires place { place < 256 }
-    requires fits { length (items clause.old) < room clause.old }
-    ensures items { items clause.new ≡ items clause.old ++ lit (suc place) ∷ [] }
-    ensures room { room clause.new ≡ room clause.old }
+/// The literal that the package at a place is installed.
+fn yes(place: usize) -> i32
+    requires { place < 256 }
+    ensures { result ≡ lit (suc place) }
 {
-    let _ = clause.push(place as i32 + 1);
+    place as i32 + 1
 }
 
-/// Puts at the end of a clause that it is not.
-pub(super) fn write_out(clause: &mut Rows<'_, i32>, place: usize)
-    requires place { place < 256 }
-    requires fits { length (items clause.old) < room clause.old }
-    ensures items { items clause.new ≡ items clause.old ++ neg (suc place) ∷ [] }
+/// The literal that it is not.
+pub(super) fn no(place: usize) -> i32
+    requires { place < 256 }
+    ensures { result ≡ neg (suc place) }
+{
+    -(place as i32 + 1)
+}
+
+/// Puts a literal at the end of a clause.
+pub(super) fn put(clause: &mut Rows<'_, i32>, literal: i32)
+    requires { length (items clause.old) < room clause.old }
+    ensures items { items clause.new ≡ items clause.old ++ literal ∷ [] }
     ensures room { room clause.new ≡ room clause.old }
 {
-    let _ = clause.push(-(place as i32 + 1));
+    let _ = clause.push(literal);
 }
 
 /// Puts at the end of a clause the packages that satisfy one of some constraints; `before` packages stand before them.
@@ -45,7 +50,7 @@ pub(super) fn write_met(
 {
     for (i, row) in packages.iter().enumerate() {
         if satisfies_one(text, group, row) {
-            write_in(clause, before + i);
+            put(clause, yes(before + i));
         }
     }
 }

@@ -1,5 +1,4 @@
-use Rattle.std.proofs.Common.{◌≡◌, ◌+◌, drop}
-use Rattle.text.specs.Rows.{room}
+use Rattle.std.proofs.Common.{◌+◌, drop}
 use Rattle.problem.specs.Feeding.{Left}
 use Rattle.problem.specs.Stanzas.{row_satisfies, passing, denials}
 use Rattle.problem.proofs.plan_clauses.denials.feed_denials.Given as goal
@@ -8,4 +7,3 @@ abbrev pub invariant-loop-i : goal.invariant-loop-i
 invariant-loop-i g l =
     Left g.S.ClauseSink.goes g.S.ClauseSink.stops (denials l.beside (passing (row_satisfies l.text l.constraint) 0 l.packages)) l.initial.sink
     (denials l.beside (passing (row_satisfies l.text l.constraint) (0 + l.i) (drop l.i l.packages))) l.sink
-    × (room l.clause ≡ room l.initial.clause)

@@ -1,6 +1,5 @@
-use Rattle.std.proofs.Common.{◌≡◌, drop}
+use Rattle.std.proofs.Common.{drop}
 use Rattle.text.specs.Lists.{each_all}
-use Rattle.text.specs.Rows.{room}
 use Rattle.problem.specs.Feeding.{Left}
 use Rattle.problem.specs.Stanzas.{row_satisfies, passing, denials}
 use Rattle.problem.proofs.plan_clauses.denials.feed_denied.Given as goal
@@ -9,4 +8,3 @@ abbrev pub invariant-loop-constraint : goal.invariant-loop-constraint
 invariant-loop-constraint g l =
     Left g.S.ClauseSink.goes g.S.ClauseSink.stops (each_all (λ c. denials l.beside (passing (row_satisfies l.text c) 0 l.packages)) l.constraints) l.initial.sink
     (each_all (λ c. denials l.beside (passing (row_satisfies l.text c) 0 l.packages)) (drop l.constraint-index l.constraints)) l.sink
-    × (room l.clause ≡ room l.initial.clause)
