@@ -1,5 +1,10 @@
 //! The rows that a problem is read into: numbers alone, so that they can lie in lent memory.
-use text::word::Word;
+ghost use Rattle.std.specs.Prelude.{◌≡◌};
+ghost use Rattle.std.specs.Str.{bytes_eq};
+ghost use Rattle.text.specs.Word.{word_in};
+
+use text::same::same_bytes;
+use text::word::{Word, bytes_of};
 
 /// How a version stands to the version of a constraint.
 #[derive(Clone, Copy)]
@@ -38,6 +43,15 @@ pub struct ConstraintRow {
     pub relation: Relation,
     pub version: u32,
     pub last: bool,
+}
+
+impl PackageRow {
+    /// Whether the row has this name, in the document.
+    pub fn is_named(&self, text: &[u8], name: &[u8]) -> bool
+        ensures { result ≡ bytes_eq name.now (word_in text.now self.now.name) }
+    {
+        same_bytes(name, bytes_of(text, self.name))
+    }
 }
 
 /// The run of a list that was not given.
