@@ -25,14 +25,14 @@ module _ {S : Type 0} (goes stops : S → Clause → S → Type 0) (o : Option �
         subst (λ cs. Left goes stops whole start cs s)
         (ap (denials o) (passing_step t ps 0 i d true l e ∙ ap (λ n. suc n ∷ passing t (0 + (i + 1)) (drop (i + 1) ps)) z) ∙ denials_first o (suc i) (passing t (0 + (i + 1)) (drop (i + 1) ps))) k
 
-    pub denials-more : t (get_or ps i d) ≡ true → (s'' : S) → Fed goes stops (denials o (suc i ∷ [])) (Ok tt) s s'' → s' ≡ s'' → Left goes stops whole start (denials o (passing t (0 + (i + 1)) (drop (i + 1) ps))) s'
-    denials-more e s'' h f = left_more goes stops whole (denials o (suc i ∷ [])) (denials o (passing t (0 + (i + 1)) (drop (i + 1) ps))) start s s' (met e) (subst (λ u. Fed goes stops (denials o (suc i ∷ [])) (Ok tt) s u) (sym f) h)
+    pub denials_more : t (get_or ps i d) ≡ true → (s'' : S) → Fed goes stops (denials o (suc i ∷ [])) (Ok tt) s s'' → s' ≡ s'' → Left goes stops whole start (denials o (passing t (0 + (i + 1)) (drop (i + 1) ps))) s'
+    denials_more e s'' h f = left_more goes stops whole (denials o (suc i ∷ [])) (denials o (passing t (0 + (i + 1)) (drop (i + 1) ps))) start s s' (met e) (subst (λ u. Fed goes stops (denials o (suc i ∷ [])) (Ok tt) s u) (sym f) h)
 
-    pub denials-stop : t (get_or ps i d) ≡ true → (e : Stopped) (r : Taken) → IsErr r → Fed goes stops (denials o (suc i ∷ [])) (Err e) s s' → Fed goes stops whole r start s'
-    denials-stop f e r = left_stop goes stops whole (denials o (suc i ∷ [])) (denials o (passing t (0 + (i + 1)) (drop (i + 1) ps))) e r start s s' (met f)
+    pub denials_stop : t (get_or ps i d) ≡ true → (e : Stopped) (r : Taken) → IsErr r → Fed goes stops (denials o (suc i ∷ [])) (Err e) s s' → Fed goes stops whole r start s'
+    denials_stop f e r = left_stop goes stops whole (denials o (suc i ∷ [])) (denials o (passing t (0 + (i + 1)) (drop (i + 1) ps))) e r start s s' (met f)
 
-    pub denials-same : t (get_or ps i d) ≡ false → s' ≡ s → Left goes stops whole start (denials o (passing t (0 + (i + 1)) (drop (i + 1) ps))) s'
-    denials-same e f = subst (λ u. Left goes stops whole start (denials o (passing t (0 + (i + 1)) (drop (i + 1) ps))) u) (sym f) (subst (λ js. Left goes stops whole start (denials o js) s) (passing_step t ps 0 i d false l e) k)
+    pub denials_same : t (get_or ps i d) ≡ false → s' ≡ s → Left goes stops whole start (denials o (passing t (0 + (i + 1)) (drop (i + 1) ps))) s'
+    denials_same e f = subst (λ u. Left goes stops whole start (denials o (passing t (0 + (i + 1)) (drop (i + 1) ps))) u) (sym f) (subst (λ js. Left goes stops whole start (denials o js) s) (passing_step t ps 0 i d false l e) k)
 
   pub denials_all : length ps ≤ i → Left goes stops whole start (denials o (passing t (0 + i) (drop i ps))) s → Fed goes stops whole (Ok tt) start s
   denials_all l k = left_all goes stops whole start s (subst (λ js. Left goes stops whole start js s) (ap (denials o) (passing_end t ps 0 i l) ∙ none o) k)

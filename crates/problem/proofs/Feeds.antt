@@ -55,12 +55,20 @@ module _ {S : Type 0} (goes stops : S → Clause → S → Type 0) where
   left_all whole start s k = k (Ok tt) s refl
 
   -- the same over a list of which each member has clauses
-  module _ {X : Type 0} (f : X → List Clause) (whole : List Clause) (start s t : S) (xs : List X) (i : ℕ) where
-    pub walk_more : (d : X) → i < length xs → Left goes stops whole start (each_all f (drop i xs)) s → Fed goes stops (f (get_or xs i d)) (Ok tt) s t → Left goes stops whole start (each_all f (drop (i + 1) xs)) t
-    walk_more d l k = left_more whole (f (get_or xs i d)) (each_all f (drop (i + 1) xs)) start s t (subst (λ ys. Left goes stops whole start (each_all f ys) s) (drop_more xs i d l) k)
+  module _ {X : Type 0} (f : X → List Clause) (whole : List Clause) (start s t : S) where
+    module _ (xs ys : List X) (x : X) (z : xs ≡ x ∷ ys) (k : Left goes stops whole start (each_all f xs) s) where
+      pub next_more : Fed goes stops (f x) (Ok tt) s t → Left goes stops whole start (each_all f ys) t
+      next_more = left_more whole (f x) (each_all f ys) start s t (subst (λ zs. Left goes stops whole start (each_all f zs) s) z k)
 
-    pub walk-stop : (d : X) (e : Stopped) (r : Taken) → i < length xs → Left goes stops whole start (each_all f (drop i xs)) s → IsErr r → Fed goes stops (f (get_or xs i d)) (Err e) s t → Fed goes stops whole r start t
-    walk-stop d e r l k = left_stop whole (f (get_or xs i d)) (each_all f (drop (i + 1) xs)) e r start s t (subst (λ ys. Left goes stops whole start (each_all f ys) s) (drop_more xs i d l) k)
+      pub next_stop : (e : Stopped) (r : Taken) → IsErr r → Fed goes stops (f x) (Err e) s t → Fed goes stops whole r start t
+      next_stop e r = left_stop whole (f x) (each_all f ys) e r start s t (subst (λ zs. Left goes stops whole start (each_all f zs) s) z k)
+
+    module _ (xs : List X) (i : ℕ) (d : X) where
+      pub walk_more : i < length xs → Left goes stops whole start (each_all f (drop i xs)) s → Fed goes stops (f (get_or xs i d)) (Ok tt) s t → Left goes stops whole start (each_all f (drop (i + 1) xs)) t
+      walk_more l k = next_more (drop i xs) (drop (i + 1) xs) (get_or xs i d) (drop_more xs i d l) k
+
+      pub walk_stop : (e : Stopped) (r : Taken) → i < length xs → Left goes stops whole start (each_all f (drop i xs)) s → IsErr r → Fed goes stops (f (get_or xs i d)) (Err e) s t → Fed goes stops whole r start t
+      walk_stop e r l k = next_stop (drop i xs) (drop (i + 1) xs) (get_or xs i d) (drop_more xs i d l) k e r
 
   pub walk_all : {X : Type 0} (f : X → List Clause) (whole : List Clause) (start s : S) (xs : List X) (i : ℕ) → length xs ≤ i → Left goes stops whole start (each_all f (drop i xs)) s → Fed goes stops whole (Ok tt) start s
   walk_all f whole start s xs i l k = left_all whole start s (subst (λ ys. Left goes stops whole start (each_all f ys) s) (drop_all i xs l) k)

@@ -1,5 +1,6 @@
 -- The walk over the names of package rows, and what it comes to in words.
-use Rattle.std.proofs.Common.{◌≡◌, ℕ, suc, ◌+◌, ◌-◌, ◌<◌, ◌≤◌, Bool, true, false, cond, not, ◌&&◌, ◌||◌, List, [], ◌∷◌, ◌++◌, length, get_or, take, drop, sym, refl, ap, ◌∙◌, arith}
+use Rattle.std.proofs.Common.{◌≡◌, ℕ, zero, suc, ◌+◌, ◌-◌, ◌<◌, ◌≤◌, Bool, true, false, cond, not, ◌&&◌, ◌||◌, List, [], ◌∷◌, ◌++◌, length, get_or, take, drop, sym, refl, ap, ◌∙◌, arith}
+use Rattle.std.specs.List.{enumerate_from}
 use Rattle.std.specs.Str.{bytes_eq}
 use Rattle.std.proofs.lemmas.Slice.Eq.{bytes_eq-Decides}
 use Rattle.std.proofs.lemmas.List.{drop_more, drop_all, map_more}
@@ -8,6 +9,7 @@ use Rattle.text.specs.Word.{word_in}
 use Rattle.problem.specs.Cudf.{Numbered, numbered, seen_in, names_from, names, versions_of, is_removed, is_changed, removed_count, changed_count}
 use Rattle.problem.specs.Meaning.{package_of, packages_in, constraints_in, problem_of}
 use Rattle.problem.specs.Naming.{marked, some_version, affected, named, row_names}
+use Rattle.problem.specs.Rows.{no_package}
 use Rattle.problem.specs.Sets.{is_in, set_of}
 use Rattle.problem.specs.declared.counts.Effect.{Effect}
 use Rattle.problem.specs.declared.counts.Effect.TheVariants.{Removes, Changes}
@@ -20,18 +22,16 @@ use Rattle.problem.specs.declared.standing.Standing.TheVariants.{Unnamed}
 use Rattle.problem.specs.declared.view.Problem.{Problem as View}
 use Rattle.problem.proofs.Walks.{some_of_each}
 
--- the walk over the versions of a name
-module _ (text : List ℕ) (set : List Standing) (m : Mark) (n : List ℕ) (ps : List PackageRow) (i : ℕ) where
-  pub version_step : (d : PackageRow) (r chosen : Bool) → i < length ps → chosen ≡ is_in (get_or set i Unnamed) → r ≡ (bytes_eq n (word_in text (get_or ps i d).name) && marked m chosen (get_or ps i d).installed) →
-      some_version text set m n i (drop i ps) ≡ (r || some_version text set m n (i + 1) (drop (i + 1) ps))
-  version_step d r chosen l f e =
-      let z : suc i ≡ i + 1 = omega arith in
-      ap (some_version text set m n i) (drop_more ps i d l)
-      ∙ ap (λ b. (bytes_eq n (word_in text (get_or ps i d).name) && marked m b (get_or ps i d).installed) || some_version text set m n (suc i) (drop (i + 1) ps)) (sym f)
-      ∙ ap (λ b. b || some_version text set m n (suc i) (drop (i + 1) ps)) (sym e) ∙ ap (λ k. r || some_version text set m n k (drop (i + 1) ps)) z
+-- the versions of a name, each with its place
+module _ (text : List ℕ) (set : List Standing) (m : Mark) (n : List ℕ) where
+  abbrev pub is_version : ℕ × PackageRow → Bool
+  is_version x = bytes_eq n (word_in text x.1.name) && marked m (is_in (get_or set x.0 Unnamed)) x.1.installed
 
-  pub version_none : length ps ≤ i → some_version text set m n i (drop i ps) ≡ false
-  version_none l = ap (some_version text set m n i) (drop_all i ps l)
+  pub versions_by_place : (b : ℕ) (ps : List PackageRow) → some is_version (enumerate_from b ps) ≡ some_version text set m n b ps
+  versions_by_place b [] = refl
+  versions_by_place b (p ∷ ps) =
+      let z : b + 1 ≡ suc b = omega arith in
+      ap (λ y. is_version (b, p) || y) (ap (λ k. some is_version (enumerate_from k ps)) z ∙ versions_by_place (suc b) ps)
 
 -- names that are seen alike
 pub names_alike : (text : List ℕ) (a b : List (List ℕ)) → ((m : List ℕ) → seen_in m a ≡ seen_in m b) → (ps : List PackageRow) → row_names text a ps ≡ row_names text b ps
@@ -85,7 +85,7 @@ module _ (text : List ℕ) (t : List ℕ → Bool) (ps : List PackageRow) (i : �
       first false e ∙ ap (λ ns. how_many t (name_of (get_or ps i d) ∷ ns)) (names_alike text (name_of (get_or ps i d) ∷ seen i) (seen (i + 1))
       (λ m. sym (ap (seen_in m) (map_more name_of ps i d l) ∙ seen_pushed m (name_of (get_or ps i d)) (seen i))) (drop (i + 1) ps))
 
-  pub names_step : (r : Bool) → r ≡ (not (named text (word_in text (get_or ps i d).name) (take i ps)) && t (word_in text (get_or ps i d).name)) →
+  names_step : (r : Bool) → r ≡ (not (named text (word_in text (get_or ps i d).name) (take i ps)) && t (word_in text (get_or ps i d).name)) →
       how_many t (row_names text (each (λ p. word_in text p.name) (take i ps)) (drop i ps)) ≡
       cond r (suc (how_many t (row_names text (each (λ p. word_in text p.name) (take (i + 1) ps)) (drop (i + 1) ps)))) (how_many t (row_names text (each (λ p. word_in text p.name) (take (i + 1) ps)) (drop (i + 1) ps)))
   names_step r f = pick (named text (name_of (get_or ps i d)) (take i ps)) refl ∙ ap (λ y. cond y (suc (rest (i + 1))) (rest (i + 1))) (sym f)
@@ -94,8 +94,27 @@ module _ (text : List ℕ) (t : List ℕ → Bool) (ps : List PackageRow) (i : �
       pick true e = old e ∙ sym (ap (λ y. cond (not y && t (name_of (get_or ps i d))) (suc (rest (i + 1))) (rest (i + 1))) e)
       pick false e = new e ∙ sym (ap (λ y. cond (not y && t (name_of (get_or ps i d))) (suc (rest (i + 1))) (rest (i + 1))) e)
 
-pub names_none : (text : List ℕ) (t : List ℕ → Bool) (ps : List PackageRow) (i : ℕ) → length ps ≤ i → how_many t (row_names text (each (λ p. word_in text p.name) (take i ps)) (drop i ps)) ≡ 0
-names_none text t ps i m = ap (λ xs. how_many t (row_names text (each (λ p. word_in text p.name) (take i ps)) xs)) (drop_all i ps m)
+-- the names, counted at their first rows
+module _ (text : List ℕ) (t : List ℕ → Bool) (ps : List PackageRow) where
+  abbrev pub is_first : ℕ × PackageRow → Bool
+  is_first x = not (named text (word_in text x.1.name) (take x.0 ps)) && t (word_in text x.1.name)
+
+  firsts_from : (n i : ℕ) → i + n ≡ length ps → length (keep is_first (enumerate_from i (drop i ps))) ≡ how_many t (row_names text (each (λ p. word_in text p.name) (take i ps)) (drop i ps))
+  firsts_from zero i e =
+      let l : length ps ≤ i = omega arith in
+      ap (λ xs. length (keep is_first (enumerate_from i xs))) (drop_all i ps l) ∙ sym (ap (λ xs. how_many t (row_names text (each (λ p. word_in text p.name) (take i ps)) xs)) (drop_all i ps l))
+  firsts_from (suc n) i e =
+      let l : i < length ps = omega arith in
+      let p = get_or ps i no_package in
+      ap (λ xs. length (keep is_first (enumerate_from i xs))) (drop_more ps i no_package l) ∙ pick (is_first (i, p)) (keep is_first (enumerate_from (i + 1) (drop (i + 1) ps)))
+      ∙ ap (λ k. cond (is_first (i, p)) (suc k) k) (firsts_from n (i + 1) (omega arith)) ∙ sym (names_step text t ps i no_package l (is_first (i, p)) refl)
+    where
+      pick : (r : Bool) (xs : List (ℕ × PackageRow)) → length (cond r ((i, get_or ps i no_package) ∷ xs) xs) ≡ cond r (suc (length xs)) (length xs)
+      pick true xs = refl
+      pick false xs = refl
+
+  pub firsts_are : length (keep is_first (enumerate_from 0 ps)) ≡ how_many t (row_names text [] ps)
+  firsts_are = firsts_from (length ps) 0 (omega arith)
 
 -- in words
 pub names_are : (text : List ℕ) (cs : List ConstraintRow) (seen : List (List ℕ)) (ps : List PackageRow) → row_names text seen ps ≡ names_from seen (each (package_of text cs) ps)

@@ -3,14 +3,13 @@
 -- some_version: whether a name has a version with a mark; so many rows stand before those that are asked
 -- affected: whether a set has an effect on a name
 -- named: whether some row has a name
--- counted: whether a set has an effect on the name of the row at a place, and no row before it has that name
+-- counted: whether a set has an effect on the name of a row, and no row before its place has that name
 -- row_names: the names of rows, each once, without those seen before
-use Rattle.std.specs.Prelude.{ℕ, suc, Bool, false, cond, not, ◌&&◌, ◌||◌, List, [], ◌∷◌, get_or, take, slice_index_or}
+use Rattle.std.specs.Prelude.{ℕ, suc, Bool, false, cond, not, ◌&&◌, ◌||◌, List, [], ◌∷◌, take, slice_index_or}
 use Rattle.std.specs.Str.{bytes_eq}
 use Rattle.text.specs.Lists.{some}
 use Rattle.text.specs.Word.{word_in}
 use Rattle.problem.specs.Cudf.{differs, seen_in}
-use Rattle.problem.specs.Rows.{no_package}
 use Rattle.problem.specs.Sets.{is_in}
 use Rattle.problem.specs.declared.counts.Effect.{Effect}
 use Rattle.problem.specs.declared.counts.Effect.TheVariants.{Removes, Changes}
@@ -40,5 +39,5 @@ row_names text seen (p ∷ ps) = cond (seen_in (word_in text p.name) seen) (row_
 abbrev pub named : List ℕ → List ℕ → List PackageRow → Bool
 named text n ps = some (λ p. bytes_eq n (word_in text p.name)) ps
 
-abbrev pub counted : List ℕ → List Standing → List PackageRow → Effect → ℕ → Bool
-counted text set ps e i = not (named text (word_in text (get_or ps i no_package).name) (take i ps)) && affected text set ps e (word_in text (get_or ps i no_package).name)
+abbrev pub counted : List ℕ → List Standing → List PackageRow → Effect → ℕ → PackageRow → Bool
+counted text set ps e i p = not (named text (word_in text p.name) (take i ps)) && affected text set ps e (word_in text p.name)

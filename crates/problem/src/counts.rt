@@ -1,8 +1,6 @@
 //! How many names a set removes, and how many it changes.
-ghost use Rattle.std.specs.Prelude.{◌≡◌, ◌<◌, ◌≤◌, ◌&&◌, [], length};
-ghost use Rattle.std.specs.Str.{bytes_eq};
+ghost use Rattle.std.specs.Prelude.{◌≡◌, not, [], take};
 ghost use Rattle.text.specs.Lists.{how_many};
-ghost use Rattle.text.specs.Word.{word_in};
 ghost use Rattle.problem.specs.Cudf.{removed_count, changed_count};
 ghost use Rattle.problem.specs.Meaning.{problem_of};
 ghost use Rattle.problem.specs.Naming.{marked, some_version, affected, counted, named, row_names};
@@ -10,8 +8,8 @@ ghost use Rattle.problem.specs.Sets.{set_of};
 
 use crate::rows::PackageRow;
 use crate::standing::{Standing, is_chosen};
+use crate::stanzas::Stanzas;
 use crate::view::Problem;
-use text::same::same_bytes;
 use text::word::bytes_of;
 
 /// What may hold of a version: installed at the start, in the set, or one of the two.
@@ -33,97 +31,69 @@ enum Effect {
 pub fn removed_names(problem: &Problem<'_, '_, '_>, set: &[Standing]) -> u32
     ensures { result ≡ removed_count (problem_of problem.now) (set_of set.now) }
 {
-    count_names(problem.text(), problem.packages(), set, Effect::Removes)
+    count_names(&problem.stanzas(), set, Effect::Removes)
 }
 
 /// How many names have other versions in the set than were installed.
 pub fn changed_names(problem: &Problem<'_, '_, '_>, set: &[Standing]) -> u32
     ensures { result ≡ changed_count (problem_of problem.now) (set_of set.now) }
 {
-    count_names(problem.text(), problem.packages(), set, Effect::Changes)
+    count_names(&problem.stanzas(), set, Effect::Changes)
 }
 
 /// How many names a set affects; each counts at its first stanza.
-fn count_names(text: &[u8], packages: &[PackageRow], set: &[Standing], effect: Effect) -> u32
-    requires { length packages.now ≤ 256 }
-    ensures { result ≡ how_many (affected text.now set.now packages.now effect) (row_names text.now [] packages.now) }
+fn count_names(stanzas: &Stanzas<'_>, set: &[Standing], effect: Effect) -> u32
+    ensures { result ≡ how_many (affected stanzas.now.text.now set.now stanzas.now.rows.now effect) (row_names stanzas.now.text.now [] stanzas.now.rows.now) }
 {
-    let mut count = 0;
-    for place in 0..packages.len() {
-        if is_counted(text, packages, set, effect, place) {
-            count += 1;
-        }
-    }
-    count
+    let rows = stanzas.rows.iter().enumerate();
+    rows.filter(|(place, row)| is_counted(stanzas, set, effect, *place, row))
+        .count() as u32
 }
 
 /// Whether a set affects the name of the stanza at a place, and that is the first of its name.
 fn is_counted(
-    text: &[u8],
-    packages: &[PackageRow],
+    stanzas: &Stanzas<'_>,
     set: &[Standing],
     effect: Effect,
     place: usize,
+    row: &PackageRow,
 ) -> bool
-    requires { place < length packages.now }
-    ensures { result ≡ counted text.now set.now packages.now effect place }
+    ensures { result ≡ counted stanzas.now.text.now set.now stanzas.now.rows.now effect place row.now }
 {
-    let name = bytes_of(text, packages[place].name);
-    !is_named(text, &packages[0..place], name) && is_affected(text, packages, set, effect, name)
+    let name = bytes_of(stanzas.text, row.name);
+    is_new(stanzas, place, name) && is_affected(stanzas, set, effect, name)
 }
 
-/// Whether some row has a name.
-fn is_named(text: &[u8], rows: &[PackageRow], name: &[u8]) -> bool
-    ensures { result ≡ named text.now name.now rows.now }
+/// Whether no stanza before a place has a name.
+fn is_new(stanzas: &Stanzas<'_>, place: usize, name: &[u8]) -> bool
+    ensures { result ≡ not (named stanzas.now.text.now name.now (take place stanzas.now.rows.now)) }
 {
-    for row in rows {
-        if same_bytes(name, bytes_of(text, row.name)) {
-            return true;
-        }
-    }
-    false
+    !stanzas
+        .rows
+        .iter()
+        .take(place)
+        .any(|row| row.is_named(stanzas.text, name))
 }
 
 /// Whether a set affects a name.
-fn is_affected(
-    text: &[u8],
-    packages: &[PackageRow],
-    set: &[Standing],
-    effect: Effect,
-    name: &[u8],
-) -> bool
-    ensures { result ≡ affected text.now set.now packages.now effect name.now }
+fn is_affected(stanzas: &Stanzas<'_>, set: &[Standing], effect: Effect, name: &[u8]) -> bool
+    ensures { result ≡ affected stanzas.now.text.now set.now stanzas.now.rows.now effect name.now }
 {
     match effect {
-        Effect::Removes => has_version(text, packages, set, Mark::Installed, name)
-            && !has_version(text, packages, set, Mark::Chosen, name),
-        Effect::Changes => has_version(text, packages, set, Mark::Changed, name),
+        Effect::Removes => has_version(stanzas, set, Mark::Installed, name)
+            && !has_version(stanzas, set, Mark::Chosen, name),
+        Effect::Changes => has_version(stanzas, set, Mark::Changed, name),
     }
 }
 
 /// Whether a name has a version with a mark.
-fn has_version(
-    text: &[u8],
-    packages: &[PackageRow],
-    set: &[Standing],
-    mark: Mark,
-    name: &[u8],
-) -> bool
-    ensures { result ≡ some_version text.now set.now mark name.now 0 packages.now }
+fn has_version(stanzas: &Stanzas<'_>, set: &[Standing], mark: Mark, name: &[u8]) -> bool
+    ensures { result ≡ some_version stanzas.now.text.now set.now mark name.now 0 stanzas.now.rows.now }
 {
-    for (i, row) in packages.iter().enumerate() {
-        if is_version(text, row, is_chosen(set, i), mark, name) {
-            return true;
-        }
-    }
-    false
-}
-
-/// Whether a row is a version of a name and has a mark.
-fn is_version(text: &[u8], row: &PackageRow, chosen: bool, mark: Mark, name: &[u8]) -> bool
-    ensures { result ≡ (bytes_eq name.now (word_in text.now row.now.name) && marked mark chosen row.now.installed) }
-{
-    same_bytes(name, bytes_of(text, row.name)) && has_mark(mark, chosen, row.installed)
+    let mut rows = stanzas.rows.iter().enumerate();
+    rows.any(|(i, row)| {
+        row.is_named(stanzas.text, name) && has_mark(mark, is_chosen(set, i), row.installed)
+    })
 }
 
 /// Whether a version has a mark.

@@ -20,5 +20,6 @@ mod satisfy;
 mod section;
 pub mod sink;
 pub mod standing;
+pub mod stanzas;
 pub mod view;
 mod wanted;

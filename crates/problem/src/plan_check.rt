@@ -58,12 +58,7 @@ pub fn check_plan(problem: &Problem<'_, '_, '_>, set: &[Standing]) -> Result<(),
 fn makes_true(set: &[Standing], clause: &[i32]) -> bool
     ensures { result ≡ makes_true (set_of set.now) clause.now }
 {
-    for literal in clause {
-        if is_true(set, *literal) {
-            return true;
-        }
-    }
-    false
+    clause.iter().any(|literal| is_true(set, *literal))
 }
 
 /// Whether a set makes a literal true.

@@ -8,8 +8,9 @@ ghost use Rattle.problem.specs.Meaning.{problem_of};
 ghost use Rattle.problem.specs.PlanClauses.{of_stanza, plan_clauses};
 ghost use Rattle.problem.specs.Stanzas.{row_satisfies_one, passing, stanza_at};
 
-use crate::rows::{ConstraintRow, PackageRow};
+use crate::rows::ConstraintRow;
 use crate::sink::{ClauseSink, Stopped};
+use crate::stanzas::Stanzas;
 use crate::view::{PACKAGES_MOST, Problem};
 use conjuncts::feed_depends;
 use denials::feed_denied;
@@ -27,11 +28,10 @@ pub fn feed_plan_clauses<S: ClauseSink>(
 ) -> Result<(), Stopped>
     ensures { Fed S.goes S.stops (plan_clauses (problem_of problem.now)) result sink.old sink.new }
 {
-    let text = problem.text();
-    let packages = problem.packages();
+    let stanzas = problem.stanzas();
     feed_stanzas(problem, sink)?;
-    feed_installs(text, packages, problem.install(), sink)?;
-    feed_denied(text, packages, None, problem.remove(), sink)
+    feed_installs(&stanzas, problem.install(), sink)?;
+    feed_denied(&stanzas, None, problem.remove(), sink)
 }
 
 /// The clauses of the package stanzas.
@@ -54,40 +54,35 @@ fn feed_stanza<S: ClauseSink>(
     requires { place < problem.now.count }
     ensures { Fed S.goes S.stops (of_stanza (problem_of problem.now) (stanza_at problem.now place)) result sink.old sink.new }
 {
-    let text = problem.text();
-    let packages = problem.packages();
-    feed_depends(text, packages, place, problem.depends(place), sink)?;
-    feed_denied(text, packages, Some(place), problem.conflicts(place), sink)
+    let stanzas = problem.stanzas();
+    feed_depends(&stanzas, place, problem.depends(place), sink)?;
+    feed_denied(&stanzas, Some(place), problem.conflicts(place), sink)
 }
 
 /// The clause of each install item.
 fn feed_installs<S: ClauseSink>(
-    text: &[u8],
-    packages: &[PackageRow],
+    stanzas: &Stanzas<'_>,
     items: &[ConstraintRow],
     sink: &mut S,
 ) -> Result<(), Stopped>
-    requires { length packages.now ≤ 256 }
-    ensures { Fed S.goes S.stops (each_all (λ c. each lit (passing (row_satisfies_one text.now (c ∷ [])) 0 packages.now) ∷ []) items.now) result sink.old sink.new }
+    ensures { Fed S.goes S.stops (each_all (λ c. each lit (passing (row_satisfies_one stanzas.now.text.now (c ∷ [])) 0 stanzas.now.rows.now) ∷ []) items.now) result sink.old sink.new }
 {
     for item in items {
-        feed_install(text, packages, item, sink)?;
+        feed_install(stanzas, item, sink)?;
     }
     Ok(())
 }
 
 /// The clause of an install item: the packages that satisfy it.
 fn feed_install<S: ClauseSink>(
-    text: &[u8],
-    packages: &[PackageRow],
+    stanzas: &Stanzas<'_>,
     item: &ConstraintRow,
     sink: &mut S,
 ) -> Result<(), Stopped>
-    requires { length packages.now ≤ 256 }
-    ensures { Fed S.goes S.stops (each lit (passing (row_satisfies_one text.now (item.now ∷ [])) 0 packages.now) ∷ []) result sink.old sink.new }
+    ensures { Fed S.goes S.stops (each lit (passing (row_satisfies_one stanzas.now.text.now (item.now ∷ [])) 0 stanzas.now.rows.now) ∷ []) result sink.old sink.new }
 {
     let mut memory = [0; PACKAGES_MOST];
     let mut clause = Rows::new(&mut memory, 0);
-    write_met(text, packages, 0, &[*item], &mut clause);
+    write_met(stanzas, 0, &[*item], &mut clause);
     sink.take(clause.as_slice())
 }

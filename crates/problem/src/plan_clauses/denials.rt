@@ -5,9 +5,9 @@ ghost use Rattle.problem.specs.Feeding.{Fed};
 ghost use Rattle.problem.specs.Stanzas.{row_satisfies, passing, denials};
 
 use super::literals::no;
-use crate::rows::{ConstraintRow, PackageRow};
-use crate::satisfy::satisfies;
+use crate::rows::ConstraintRow;
 use crate::sink::{ClauseSink, Stopped};
+use crate::stanzas::Stanzas;
 
 /// That the package at `place` is not installed.
 fn feed_alone<S: ClauseSink>(place: usize, sink: &mut S) -> Result<(), Stopped>
@@ -31,18 +31,16 @@ fn feed_pair<S: ClauseSink>(other: usize, place: usize, sink: &mut S) -> Result<
 
 /// That no package satisfies a constraint, or none does beside the one at a place.
 fn feed_denials<S: ClauseSink>(
-    text: &[u8],
-    packages: &[PackageRow],
+    stanzas: &Stanzas<'_>,
     beside: Option<usize>,
     constraint: &ConstraintRow,
     sink: &mut S,
 ) -> Result<(), Stopped>
-    requires beside { IfSome beside (λ i. i < 256) }
-    requires few { length packages.now ≤ 256 }
-    ensures { Fed S.goes S.stops (denials beside (passing (row_satisfies text.now constraint.now) 0 packages.now)) result sink.old sink.new }
+    requires { IfSome beside (λ i. i < 256) }
+    ensures { Fed S.goes S.stops (denials beside (passing (row_satisfies stanzas.now.text.now constraint.now) 0 stanzas.now.rows.now)) result sink.old sink.new }
 {
-    for (i, row) in packages.iter().enumerate() {
-        if satisfies(text, constraint, row) {
+    for (i, row) in stanzas.rows.iter().enumerate() {
+        if stanzas.satisfies(constraint, row) {
             feed_denial(beside, i, sink)?;
         }
     }
@@ -67,18 +65,16 @@ fn feed_denial<S: ClauseSink>(
 
 /// The same for each of some constraints.
 pub(super) fn feed_denied<S: ClauseSink>(
-    text: &[u8],
-    packages: &[PackageRow],
+    stanzas: &Stanzas<'_>,
     beside: Option<usize>,
     constraints: &[ConstraintRow],
     sink: &mut S,
 ) -> Result<(), Stopped>
-    requires beside { IfSome beside (λ i. i < 256) }
-    requires few { length packages.now ≤ 256 }
-    ensures { Fed S.goes S.stops (each_all (λ c. denials beside (passing (row_satisfies text.now c) 0 packages.now)) constraints.now) result sink.old sink.new }
+    requires { IfSome beside (λ i. i < 256) }
+    ensures { Fed S.goes S.stops (each_all (λ c. denials beside (passing (row_satisfies stanzas.now.text.now c) 0 stanzas.now.rows.now)) constraints.now) result sink.old sink.new }
 {
     for constraint in constraints {
-        feed_denials(text, packages, beside, constraint, sink)?;
+        feed_denials(stanzas, beside, constraint, sink)?;
     }
     Ok(())
 }

@@ -5,8 +5,8 @@ ghost use Rattle.text.specs.Literals.{lit, neg};
 ghost use Rattle.text.specs.Rows.{items, room};
 ghost use Rattle.problem.specs.Stanzas.{row_satisfies_one, passing};
 
-use crate::rows::{ConstraintRow, PackageRow};
-use crate::satisfy::satisfies_one;
+use crate::rows::ConstraintRow;
+use crate::stanzas::Stanzas;
 use text::rows::Rows;
 
 /// The literal that the package at a place is installed.
@@ -36,20 +36,19 @@ pub(super) fn put(clause: &mut Rows<'_, i32>, literal: i32)
 
 /// Puts at the end of a clause the packages that satisfy one of some constraints; `before` packages stand before them.
 pub(super) fn write_met(
-    text: &[u8],
-    packages: &[PackageRow],
+    stanzas: &Stanzas<'_>,
     before: usize,
     group: &[ConstraintRow],
     clause: &mut Rows<'_, i32>,
 )
-    requires few { before + length packages.now ≤ 256 }
-    requires fits { length (items clause.old) + length packages.now ≤ room clause.old }
-    ensures items { items clause.new ≡ items clause.old ++ each lit (passing (row_satisfies_one text.now group.now) before packages.now) }
-    ensures len { length (items clause.new) ≤ length (items clause.old) + length packages.now }
+    requires few { before + length stanzas.now.rows.now ≤ 256 }
+    requires fits { length (items clause.old) + length stanzas.now.rows.now ≤ room clause.old }
+    ensures items { items clause.new ≡ items clause.old ++ each lit (passing (row_satisfies_one stanzas.now.text.now group.now) before stanzas.now.rows.now) }
+    ensures len { length (items clause.new) ≤ length (items clause.old) + length stanzas.now.rows.now }
     ensures room { room clause.new ≡ room clause.old }
 {
-    for (i, row) in packages.iter().enumerate() {
-        if satisfies_one(text, group, row) {
+    for (i, row) in stanzas.rows.iter().enumerate() {
+        if stanzas.satisfies_one(group, row) {
             put(clause, yes(before + i));
         }
     }

@@ -8,11 +8,11 @@ returns-in_err-feed_stanzas g c = fed_stop _ _ _ _ _ _ _ _ c.from_residual.ensur
 
 pub returns-in_err-feed_installs : goal.returns-in_err-feed_installs
 returns-in_err-feed_installs g c =
-    fed_stop _ _ _ _ _ _ _ _ c.from_residual-in_err-feed_installs.ensures.0 (fed_on_as _ _ _ _ _ _ _ _ _ _ refl (install_are c.args.problem.now _ _ c.text-text.ensures c.packages-packages.ensures.value _ c.install.ensures)
+    fed_stop _ _ _ _ _ _ _ _ c.from_residual-in_err-feed_installs.ensures.0 (fed_on_as _ _ _ _ _ _ _ _ _ _ refl (install_are c.args.problem.now _ _ c.stanzas-stanzas.ensures.text c.stanzas-stanzas.ensures.rows _ c.install.ensures)
     c.in_ok-feed_stanzas.ensures c.in_err-feed_installs.ensures)
 
 pub returns : goal.returns
 returns g c =
-    fed_on _ _ _ _ _ _ _ _ (fed_on_as _ _ _ _ _ _ _ _ _ _ refl (install_are c.args.problem.now _ _ c.text-text.ensures c.packages-packages.ensures.value _ c.install.ensures)
+    fed_on _ _ _ _ _ _ _ _ (fed_on_as _ _ _ _ _ _ _ _ _ _ refl (install_are c.args.problem.now _ _ c.stanzas-stanzas.ensures.text c.stanzas-stanzas.ensures.rows _ c.install.ensures)
     c.in_ok-feed_stanzas.ensures c.in_ok-feed_installs.ensures)
-    (fed_as _ _ _ _ _ _ _ (remove_are c.args.problem.now _ _ c.text-text.ensures c.packages-packages.ensures.value _ c.remove.ensures) c.feed_denied.ensures)
+    (fed_as _ _ _ _ _ _ _ (remove_are c.args.problem.now _ _ c.stanzas-stanzas.ensures.text c.stanzas-stanzas.ensures.rows _ c.remove.ensures) c.feed_denied.ensures)
