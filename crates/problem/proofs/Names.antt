@@ -6,15 +6,11 @@ use Rattle.std.proofs.lemmas.Slice.Eq.{bytes_eq-Decides}
 use Rattle.std.proofs.lemmas.List.{drop_more, drop_all, map_more}
 use Rattle.text.specs.Lists.{each, keep, some, how_many}
 use Rattle.text.specs.Word.{word_in}
-use Rattle.problem.specs.Cudf.{Numbered, numbered, seen_in, names_from, names, versions_of, is_removed, is_changed, removed_count, changed_count}
+use Rattle.problem.specs.Cudf.{Numbered, numbered, differs, seen_in, names_from, names, versions_of, is_removed, is_changed, removed_count, changed_count}
 use Rattle.problem.specs.Meaning.{package_of, packages_in, constraints_in, problem_of}
-use Rattle.problem.specs.Naming.{marked, some_version, affected, named, row_names}
+use Rattle.problem.specs.Naming.{some_version, removes, changes, named, counted, row_names}
 use Rattle.problem.specs.Rows.{no_package}
 use Rattle.problem.specs.Sets.{is_in, set_of}
-use Rattle.problem.specs.declared.counts.Effect.{Effect}
-use Rattle.problem.specs.declared.counts.Effect.TheVariants.{Removes, Changes}
-use Rattle.problem.specs.declared.counts.Mark.{Mark}
-use Rattle.problem.specs.declared.counts.Mark.TheVariants.{Installed, Chosen, Changed}
 use Rattle.problem.specs.declared.rows.PackageRow.{PackageRow}
 use Rattle.problem.specs.declared.rows.ConstraintRow.{ConstraintRow}
 use Rattle.problem.specs.declared.standing.Standing.{Standing}
@@ -23,9 +19,9 @@ use Rattle.problem.specs.declared.view.Problem.{Problem as View}
 use Rattle.problem.proofs.Walks.{some_of_each}
 
 -- the versions of a name, each with its place
-module _ (text : List ℕ) (set : List Standing) (m : Mark) (n : List ℕ) where
+module _ (text : List ℕ) (set : List Standing) (m : Bool → Bool → Bool) (n : List ℕ) where
   abbrev pub is_version : ℕ × PackageRow → Bool
-  is_version x = bytes_eq n (word_in text x.1.name) && marked m (is_in (get_or set x.0 Unnamed)) x.1.installed
+  is_version x = bytes_eq n (word_in text x.1.name) && m (is_in (get_or set x.0 Unnamed)) x.1.installed
 
   pub versions_by_place : (b : ℕ) (ps : List PackageRow) → some is_version (enumerate_from b ps) ≡ some_version text set m n b ps
   versions_by_place b [] = refl
@@ -97,7 +93,7 @@ module _ (text : List ℕ) (t : List ℕ → Bool) (ps : List PackageRow) (i : �
 -- the names, counted at their first rows
 module _ (text : List ℕ) (t : List ℕ → Bool) (ps : List PackageRow) where
   abbrev pub is_first : ℕ × PackageRow → Bool
-  is_first x = not (named text (word_in text x.1.name) (take x.0 ps)) && t (word_in text x.1.name)
+  is_first x = counted text t ps x.0 x.1
 
   firsts_from : (n i : ℕ) → i + n ≡ length ps → length (keep is_first (enumerate_from i (drop i ps))) ≡ how_many t (row_names text (each (λ p. word_in text p.name) (take i ps)) (drop i ps))
   firsts_from zero i e =
@@ -124,13 +120,13 @@ names_are text cs seen (p ∷ ps) =
     ap (λ y. cond (seen_in n seen) y (n ∷ row_names text (n ∷ seen) ps)) (names_are text cs seen ps) ∙ ap (λ y. cond (seen_in n seen) (names_from seen (each (package_of text cs) ps)) (n ∷ y)) (names_are text cs (n ∷ seen) ps)
 
 module _ (text : List ℕ) (cs : List ConstraintRow) (set : List Standing) (n : List ℕ) where
-  version_is : (m : Mark) (b : ℕ) (ps : List PackageRow) →
-      some_version text set m n b ps ≡ some (λ i. marked m (set_of set i.number) i.stanza.installed) (keep (λ i. bytes_eq n i.stanza.name) (numbered (suc b) (each (package_of text cs) ps)))
+  version_is : (m : Bool → Bool → Bool) (b : ℕ) (ps : List PackageRow) →
+      some_version text set m n b ps ≡ some (λ i. m (set_of set i.number) i.stanza.installed) (keep (λ i. bytes_eq n i.stanza.name) (numbered (suc b) (each (package_of text cs) ps)))
   version_is m b [] = refl
   version_is m b (p ∷ ps) =
       let z : b ≡ suc b - 1 = omega arith in
-      ap (λ k. (bytes_eq n (word_in text p.name) && marked m (is_in (get_or set k Unnamed)) p.installed) || some_version text set m n (suc b) ps) z
-      ∙ ap (λ y. (bytes_eq n (word_in text p.name) && marked m (set_of set (suc b)) p.installed) || y) (version_is m (suc b) ps)
+      ap (λ k. (bytes_eq n (word_in text p.name) && m (is_in (get_or set k Unnamed)) p.installed) || some_version text set m n (suc b) ps) z
+      ∙ ap (λ y. (bytes_eq n (word_in text p.name) && m (set_of set (suc b)) p.installed) || y) (version_is m (suc b) ps)
       ∙ picked (bytes_eq n (word_in text p.name)) _ _ _
     where
       picked : (x : Bool) (t : Numbered → Bool) (i : Numbered) (is : List Numbered) → ((x && t i) || some t is) ≡ some t (cond x (i ∷ is) is)
@@ -143,16 +139,16 @@ how_many_same t u e (x ∷ xs) = ap (λ y. cond y (suc (how_many t xs)) (how_man
 
 -- the same, of what the calls on a view give
 module _ (v : View) (set : List Standing) (text : List ℕ) (ps : List PackageRow) (e : text ≡ v.text.now) (f : ps ≡ packages_in v) where
-  counted : (effect : Effect) (t : List ℕ → Bool) → ((n : List ℕ) → affected v.text.now set (packages_in v) effect n ≡ t n) → how_many (affected text set ps effect) (row_names text [] ps) ≡ how_many t (names (problem_of v))
-  counted effect t h =
-      ap (λ x. how_many (affected x set ps effect) (row_names x [] ps)) e ∙ ap (λ x. how_many (affected v.text.now set x effect) (row_names v.text.now [] x)) f
+  in_words : (u : List ℕ → List PackageRow → List ℕ → Bool) (t : List ℕ → Bool) → ((n : List ℕ) → u v.text.now (packages_in v) n ≡ t n) → how_many (u text ps) (row_names text [] ps) ≡ how_many t (names (problem_of v))
+  in_words u t h =
+      ap (λ x. how_many (u x ps) (row_names x [] ps)) e ∙ ap (λ x. how_many (u v.text.now x) (row_names v.text.now [] x)) f
       ∙ how_many_same _ t h (row_names v.text.now [] (packages_in v)) ∙ ap (how_many t) (names_are v.text.now (constraints_in v) [] (packages_in v))
 
-  pub removed_are : how_many (affected text set ps Removes) (row_names text [] ps) ≡ removed_count (problem_of v) (set_of set)
+  pub removed_are : how_many (removes text set ps) (row_names text [] ps) ≡ removed_count (problem_of v) (set_of set)
   removed_are =
-      counted Removes (is_removed (problem_of v) (set_of set))
-      (λ n. ap (λ x. x && not (some_version v.text.now set Chosen n 0 (packages_in v))) (version_is v.text.now (constraints_in v) set n Installed 0 (packages_in v))
-      ∙ ap (λ x. some (λ i. i.stanza.installed) (versions_of (problem_of v) n) && not x) (version_is v.text.now (constraints_in v) set n Chosen 0 (packages_in v)))
+      in_words (λ x qs. removes x set qs) (is_removed (problem_of v) (set_of set))
+      (λ n. ap (λ x. x && not (some_version v.text.now set (λ chosen installed. chosen) n 0 (packages_in v))) (version_is v.text.now (constraints_in v) set n (λ chosen installed. installed) 0 (packages_in v))
+      ∙ ap (λ x. some (λ i. i.stanza.installed) (versions_of (problem_of v) n) && not x) (version_is v.text.now (constraints_in v) set n (λ chosen installed. chosen) 0 (packages_in v)))
 
-  pub changed_are : how_many (affected text set ps Changes) (row_names text [] ps) ≡ changed_count (problem_of v) (set_of set)
-  changed_are = counted Changes (is_changed (problem_of v) (set_of set)) (λ n. version_is v.text.now (constraints_in v) set n Changed 0 (packages_in v))
+  pub changed_are : how_many (changes text set ps) (row_names text [] ps) ≡ changed_count (problem_of v) (set_of set)
+  changed_are = in_words (λ x qs. changes x set qs) (is_changed (problem_of v) (set_of set)) (λ n. version_is v.text.now (constraints_in v) set n differs 0 (packages_in v))

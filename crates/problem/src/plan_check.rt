@@ -46,12 +46,9 @@ pub fn check_plan(problem: &Problem<'_, '_, '_>, set: &[Standing]) -> Result<(),
     ensures agree { PlansAgree }
 {
     let mut test = PlanTest { set, passed: 0 };
-    match feed_plan_clauses(problem, &mut test) {
-        Ok(()) => Ok(()),
-        Err(Stopped) => Err(NotPlan {
-            clause: test.passed + 1,
-        }),
-    }
+    feed_plan_clauses(problem, &mut test).map_err(|_| NotPlan {
+        clause: test.passed + 1,
+    })
 }
 
 /// Whether a set makes a clause true.
