@@ -54,41 +54,30 @@ seen_again m n a h = seen_pushed m n a ∙ pick (bytes_eq m n) refl
     pick true e = sym (ap (λ k. seen_in k a) ((bytes_eq-Decides m n).0 e) ∙ h)
     pick false e = refl
 
-module _ (text : List ℕ) (t : List ℕ → Bool) (ps : List PackageRow) (i : ℕ) (d : PackageRow) (l : i < length ps) where
+-- the walk over the names
+module _ (text : List ℕ) (ps : List PackageRow) (i : ℕ) (d : PackageRow) (l : i < length ps) where
   abbrev name_of : PackageRow → List ℕ
   name_of p = word_in text p.name
+
+  abbrev name : List ℕ
+  name = name_of (get_or ps i d)
 
   abbrev seen : ℕ → List (List ℕ)
   seen k = each name_of (take k ps)
 
-  abbrev rest : ℕ → ℕ
-  rest k = how_many t (row_names text (seen k) (drop k ps))
+  abbrev rest : ℕ → List (List ℕ)
+  rest k = row_names text (seen k) (drop k ps)
 
-  first : (b : Bool) → some (λ p. bytes_eq (name_of (get_or ps i d)) (name_of p)) (take i ps) ≡ b →
-      rest i ≡ how_many t (cond b (row_names text (seen i) (drop (i + 1) ps)) (name_of (get_or ps i d) ∷ row_names text (name_of (get_or ps i d) ∷ seen i) (drop (i + 1) ps)))
-  first b e =
-      ap (λ xs. how_many t (row_names text (seen i) xs)) (drop_more ps i d l)
-      ∙ ap (λ y. how_many t (cond y (row_names text (seen i) (drop (i + 1) ps)) (name_of (get_or ps i d) ∷ row_names text (name_of (get_or ps i d) ∷ seen i) (drop (i + 1) ps))))
-      (some_of_each (bytes_eq (name_of (get_or ps i d))) name_of (take i ps) ∙ e)
-
-  old : some (λ p. bytes_eq (name_of (get_or ps i d)) (name_of p)) (take i ps) ≡ true → rest i ≡ rest (i + 1)
-  old e =
-      first true e ∙ ap (how_many t) (names_alike text (seen i) (seen (i + 1))
-      (λ m. sym (ap (seen_in m) (map_more name_of ps i d l) ∙ seen_again m (name_of (get_or ps i d)) (seen i) (some_of_each (bytes_eq (name_of (get_or ps i d))) name_of (take i ps) ∙ e))) (drop (i + 1) ps))
-
-  new : some (λ p. bytes_eq (name_of (get_or ps i d)) (name_of p)) (take i ps) ≡ false → rest i ≡ cond (t (name_of (get_or ps i d))) (suc (rest (i + 1))) (rest (i + 1))
-  new e =
-      first false e ∙ ap (λ ns. how_many t (name_of (get_or ps i d) ∷ ns)) (names_alike text (name_of (get_or ps i d) ∷ seen i) (seen (i + 1))
-      (λ m. sym (ap (seen_in m) (map_more name_of ps i d l) ∙ seen_pushed m (name_of (get_or ps i d)) (seen i))) (drop (i + 1) ps))
-
-  names_step : (r : Bool) → r ≡ (not (named text (word_in text (get_or ps i d).name) (take i ps)) && t (word_in text (get_or ps i d).name)) →
-      how_many t (row_names text (each (λ p. word_in text p.name) (take i ps)) (drop i ps)) ≡
-      cond r (suc (how_many t (row_names text (each (λ p. word_in text p.name) (take (i + 1) ps)) (drop (i + 1) ps)))) (how_many t (row_names text (each (λ p. word_in text p.name) (take (i + 1) ps)) (drop (i + 1) ps)))
-  names_step r f = pick (named text (name_of (get_or ps i d)) (take i ps)) refl ∙ ap (λ y. cond y (suc (rest (i + 1))) (rest (i + 1))) (sym f)
+  pub rows_step : rest i ≡ cond (named text name (take i ps)) (rest (i + 1)) (name ∷ rest (i + 1))
+  rows_step =
+      ap (row_names text (seen i)) (drop_more ps i d l)
+      ∙ ap (λ y. cond y (row_names text (seen i) (drop (i + 1) ps)) (name ∷ row_names text (name ∷ seen i) (drop (i + 1) ps))) (some_of_each (bytes_eq name) name_of (take i ps)) ∙ pick (named text name (take i ps)) refl
     where
-      pick : (b : Bool) → named text (name_of (get_or ps i d)) (take i ps) ≡ b → rest i ≡ cond (not (named text (name_of (get_or ps i d)) (take i ps)) && t (name_of (get_or ps i d))) (suc (rest (i + 1))) (rest (i + 1))
-      pick true e = old e ∙ sym (ap (λ y. cond (not y && t (name_of (get_or ps i d))) (suc (rest (i + 1))) (rest (i + 1))) e)
-      pick false e = new e ∙ sym (ap (λ y. cond (not y && t (name_of (get_or ps i d))) (suc (rest (i + 1))) (rest (i + 1))) e)
+      pick : (b : Bool) → named text name (take i ps) ≡ b → cond b (row_names text (seen i) (drop (i + 1) ps)) (name ∷ row_names text (name ∷ seen i) (drop (i + 1) ps)) ≡ cond b (rest (i + 1)) (name ∷ rest (i + 1))
+      pick true h =
+          names_alike text (seen i) (seen (i + 1))
+          (λ m. sym (ap (seen_in m) (map_more name_of ps i d l) ∙ seen_again m name (seen i) (some_of_each (bytes_eq name) name_of (take i ps) ∙ h))) (drop (i + 1) ps)
+      pick false h = ap (λ ns. name ∷ ns) (names_alike text (name ∷ seen i) (seen (i + 1)) (λ m. sym (ap (seen_in m) (map_more name_of ps i d l) ∙ seen_pushed m name (seen i))) (drop (i + 1) ps))
 
 -- the names, counted at their first rows
 module _ (text : List ℕ) (t : List ℕ → Bool) (ps : List PackageRow) where
@@ -103,11 +92,18 @@ module _ (text : List ℕ) (t : List ℕ → Bool) (ps : List PackageRow) where
       let l : i < length ps = omega arith in
       let p = get_or ps i no_package in
       ap (λ xs. length (keep is_first (enumerate_from i xs))) (drop_more ps i no_package l) ∙ pick (is_first (i, p)) (keep is_first (enumerate_from (i + 1) (drop (i + 1) ps)))
-      ∙ ap (λ k. cond (is_first (i, p)) (suc k) k) (firsts_from n (i + 1) (omega arith)) ∙ sym (names_step text t ps i no_package l (is_first (i, p)) refl)
+      ∙ ap (λ k. cond (is_first (i, p)) (suc k) k) (firsts_from n (i + 1) (omega arith)) ∙ sym (ap (how_many t) (rows_step text ps i no_package l) ∙ met (named text (word_in text p.name) (take i ps)))
     where
       pick : (r : Bool) (xs : List (ℕ × PackageRow)) → length (cond r ((i, get_or ps i no_package) ∷ xs) xs) ≡ cond r (suc (length xs)) (length xs)
       pick true xs = refl
       pick false xs = refl
+
+      names : List (List ℕ)
+      names = row_names text (each (λ p. word_in text p.name) (take (i + 1) ps)) (drop (i + 1) ps)
+
+      met : (b : Bool) → how_many t (cond b names (word_in text (get_or ps i no_package).name ∷ names)) ≡ cond (not b && t (word_in text (get_or ps i no_package).name)) (suc (how_many t names)) (how_many t names)
+      met true = refl
+      met false = refl
 
   pub firsts_are : length (keep is_first (enumerate_from 0 ps)) ≡ how_many t (row_names text [] ps)
   firsts_are = firsts_from (length ps) 0 (omega arith)

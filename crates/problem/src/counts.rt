@@ -1,9 +1,9 @@
 //! How many names a set removes, and how many it changes.
-ghost use Rattle.std.specs.Prelude.{◌≡◌, not, [], take};
+ghost use Rattle.std.specs.Prelude.{◌≡◌, []};
 ghost use Rattle.text.specs.Lists.{how_many};
 ghost use Rattle.problem.specs.Cudf.{removed_count, changed_count};
 ghost use Rattle.problem.specs.Meaning.{problem_of};
-ghost use Rattle.problem.specs.Naming.{TestsNames, Marks, some_version, removes, changes, named, counted, row_names};
+ghost use Rattle.problem.specs.Naming.{TestsNames, Marks, some_version, removes, changes, counted, row_names};
 ghost use Rattle.problem.specs.Sets.{set_of};
 
 use crate::rows::PackageRow;
@@ -49,18 +49,7 @@ fn is_counted<F: Fn(&[u8]) -> bool>(
     ensures { (t : _) → TestsNames F.Fn test.now t → result ≡ counted stanzas.now.text.now t stanzas.now.rows.now place row.now }
 {
     let name = bytes_of(stanzas.text, row.name);
-    is_new(stanzas, place, name) && test(name)
-}
-
-/// Whether no stanza before a place has a name.
-fn is_new(stanzas: &Stanzas<'_>, place: usize, name: &[u8]) -> bool
-    ensures { result ≡ not (named stanzas.now.text.now name.now (take place stanzas.now.rows.now)) }
-{
-    !stanzas
-        .rows
-        .iter()
-        .take(place)
-        .any(|row| row.is_named(stanzas.text, name))
+    stanzas.is_new(place, name) && test(name)
 }
 
 /// Whether a name had an installed version, and has none in the set.

@@ -1,5 +1,6 @@
 //! The package stanzas of a problem, beside the document that their names lie in.
-ghost use Rattle.std.specs.Prelude.{◌≡◌, ◌+◌, ◌<◌, ◌≤◌, length, take, drop};
+ghost use Rattle.std.specs.Prelude.{◌≡◌, ◌+◌, ◌<◌, ◌≤◌, not, length, take, drop};
+ghost use Rattle.problem.specs.Naming.{named};
 
 use crate::rows::PackageRow;
 
@@ -12,6 +13,14 @@ pub struct Stanzas<'a> {
 }
 
 impl<'a> Stanzas<'a> {
+    /// Whether none before a place has this name.
+    pub fn is_new(&self, place: usize, name: &[u8]) -> bool
+        ensures { result ≡ not (named self.now.text.now name.now (take place self.now.rows.now)) }
+    {
+        let mut rows = self.rows.iter().take(place);
+        !rows.any(|row| row.is_named(self.text, name))
+    }
+
     /// Those before a place, and those after it.
     pub(crate) fn around(&self, place: usize) -> (Stanzas<'a>, Stanzas<'a>)
         requires { place < length self.now.rows.now }

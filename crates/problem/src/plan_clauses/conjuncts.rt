@@ -6,7 +6,7 @@ ghost use Rattle.problem.specs.Meaning.{conjuncts};
 ghost use Rattle.problem.specs.PlanClauses.{needs};
 ghost use Rattle.problem.specs.Stanzas.{row_satisfies_one, passing};
 
-use super::literals::{no, put, write_met};
+use super::literals::{put, variable_at, write_met};
 use crate::rows::ConstraintRow;
 use crate::sink::{ClauseSink, Stopped};
 use crate::stanzas::Stanzas;
@@ -30,7 +30,7 @@ fn feed_conjunct<S: ClauseSink>(
     let mut clause = Rows::new(&mut memory, 0);
     let (before, after) = stanzas.around(place);
     write_met(&before, 0, group, &mut clause);
-    put(&mut clause, no(place));
+    put(&mut clause, variable_at(place).no());
     write_met(&after, place + 1, group, &mut clause);
     sink.take(clause.as_slice())
 }

@@ -4,7 +4,7 @@ ghost use Rattle.text.specs.Lists.{each_all};
 ghost use Rattle.problem.specs.Feeding.{Fed};
 ghost use Rattle.problem.specs.Stanzas.{row_satisfies, passing, denials};
 
-use super::literals::no;
+use super::literals::variable_at;
 use crate::rows::ConstraintRow;
 use crate::sink::{ClauseSink, Stopped};
 use crate::stanzas::Stanzas;
@@ -14,7 +14,7 @@ fn feed_alone<S: ClauseSink>(place: usize, sink: &mut S) -> Result<(), Stopped>
     requires { place < 256 }
     ensures { Fed S.goes S.stops (denials None (suc place ∷ [])) result sink.old sink.new }
 {
-    sink.take(&[no(place)])
+    sink.take(&[variable_at(place).no()])
 }
 
 /// That the packages at two places are not both installed; nothing if they are one.
@@ -26,7 +26,9 @@ fn feed_pair<S: ClauseSink>(other: usize, place: usize, sink: &mut S) -> Result<
     if other == place {
         return Ok(());
     }
-    sink.take(&[no(other.min(place)), no(other.max(place))])
+    let first = variable_at(other.min(place));
+    let second = variable_at(other.max(place));
+    sink.take(&[first.no(), second.no()])
 }
 
 /// That no package satisfies a constraint, or none does beside the one at a place.

@@ -1,28 +1,23 @@
-//! The literals of packages, and clauses of them.
+//! The variables of packages, and clauses of them.
 ghost use Rattle.std.specs.Prelude.{◌≡◌, suc, ◌+◌, ◌<◌, ◌≤◌, [], ◌∷◌, ◌++◌, length};
 ghost use Rattle.text.specs.Lists.{each};
-ghost use Rattle.text.specs.Literals.{lit, neg};
+ghost use Rattle.text.specs.Literals.{lit};
 ghost use Rattle.text.specs.Rows.{items, room};
 ghost use Rattle.problem.specs.Stanzas.{row_satisfies_one, passing};
 
 use crate::rows::ConstraintRow;
 use crate::stanzas::Stanzas;
+use crate::variable::Variable;
 use text::rows::Rows;
 
-/// The literal that the package at a place is installed.
-fn yes(place: usize) -> i32
+/// The variable of the package at a place.
+pub(super) fn variable_at(place: usize) -> Variable
     requires { place < 256 }
-    ensures { result ≡ lit (suc place) }
+    ensures { result.number ≡ suc place }
 {
-    place as i32 + 1
-}
-
-/// The literal that it is not.
-pub(super) fn no(place: usize) -> i32
-    requires { place < 256 }
-    ensures { result ≡ neg (suc place) }
-{
-    -(place as i32 + 1)
+    Variable {
+        number: place as u32 + 1,
+    }
 }
 
 /// Puts a literal at the end of a clause.
@@ -49,7 +44,7 @@ pub(super) fn write_met(
 {
     for (i, row) in stanzas.rows.iter().enumerate() {
         if stanzas.satisfies_one(group, row) {
-            put(clause, yes(before + i));
+            put(clause, variable_at(before + i).yes());
         }
     }
 }

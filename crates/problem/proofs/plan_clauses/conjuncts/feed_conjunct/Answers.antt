@@ -2,7 +2,7 @@ use Rattle.std.proofs.Common.{◌+◌, [], ◌∷◌, ◌++◌, length, sym, ap,
 use Rattle.std.proofs.lemmas.Int.{to_z-of_z}
 use Rattle.std.proofs.lemmas.List.{length-take, length-drop, length_push}
 use Rattle.text.specs.Lists.{each}
-use Rattle.text.specs.Literals.{lit}
+use Rattle.text.specs.Literals.{lit, neg}
 use Rattle.text.specs.Rows.{items}
 use Rattle.problem.specs.Stanzas.{row_satisfies_one, passing}
 use Rattle.problem.specs.Rows.{no_package}
@@ -36,6 +36,6 @@ returns g c =
     fed_one _ _ _ _ _ _ _
     (needs-written t ps c.args.place no_package c.requires _ _ _ _ _ _ (sym c.if-satisfies_one.ensures) c.around.ensures.before c.around.ensures.after c.new-clause.ensures.items
     (c.write_met.ensures.items ∙ ap (λ x. items c.new-clause.result ++ each lit (passing (row_satisfies_one x c.args.group.now) 0 c.around.result.0.rows.now)) c.around.ensures.before_text)
-    (c.put.ensures.items ∙ ap (λ z. items c.write_met.new.clause ++ z ∷ []) (to_z-of_z w32 c.no.result (search rules) ∙ c.no.ensures))
+    (c.put.ensures.items ∙ ap (λ z. items c.write_met.new.clause ++ z ∷ []) (to_z-of_z w32 c.no.result (search rules) ∙ c.no.ensures ∙ ap neg c.variable_at.ensures))
     (c.as_slice.ensures ∙ c.write_met-2.ensures.items ∙ ap (λ x. items c.put.new.clause ++ each lit (passing (row_satisfies_one x c.args.group.now) (c.args.place + 1) c.around.result.1.rows.now)) c.around.ensures.after_text))
     c.take.ensures

@@ -13,7 +13,7 @@ loop-i-preserved c =
       | then-satisfies_one w ↦
           let now = c.if-satisfies_one.clause in
           let e : items now ≡ items c.loop-i.clause ++ lit (suc (c.args.before + c.loop-i.i)) ∷ [] =
-          ap items w.clause-is ∙ w.put.ensures.items ∙ ap (λ z. items c.loop-i.clause ++ z ∷ []) (to_z-of_z w32 w.yes.result (search rules) ∙ w.yes.ensures) in
+          ap items w.clause-is ∙ w.put.ensures.items ∙ ap (λ z. items c.loop-i.clause ++ z ∷ []) (to_z-of_z w32 w.yes.result (search rules) ∙ w.yes.ensures ∙ ap lit w.variable_at.ensures) in
           let n : length (items now) ≡ length (items c.loop-i.clause) + 1 = ap length e ∙ length_push (items c.loop-i.clause) _ in (
             written_more _ c.args.stanzas.now.rows.now c.args.before c.loop-i.i _ _ _ _ c.loop-i-test.true (sym w.if-satisfies_one.ensures) e c.loop-i.invariant.0,
             omega (arith, n, c.loop-i.invariant.1),
