@@ -21,5 +21,7 @@ mod satisfy;
 mod section;
 pub mod sink;
 pub mod standing;
+pub mod stanzas;
+pub mod variable;
 pub mod view;
 mod wanted;

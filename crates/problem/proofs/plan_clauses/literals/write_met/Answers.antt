@@ -1,4 +1,5 @@
-use Rattle.std.proofs.Common.{◌≡◌, suc, ◌+◌, [], ◌∷◌, ◌++◌, length, sym, ap, ◌∙◌, arith}
+use Rattle.std.proofs.Common.{◌≡◌, suc, ◌+◌, [], ◌∷◌, ◌++◌, length, sym, ap, ◌∙◌, w32, rules, arith}
+use Rattle.std.proofs.lemmas.Int.{to_z-of_z}
 use Rattle.std.proofs.lemmas.List.{length_push}
 use Rattle.text.specs.Literals.{lit}
 use Rattle.text.specs.Rows.{items, room}
@@ -12,14 +13,14 @@ loop-i-preserved c =
       | then-satisfies_one w ↦
           let now = c.if-satisfies_one.clause in
           let e : items now ≡ items c.loop-i.clause ++ lit (suc (c.args.before + c.loop-i.i)) ∷ [] =
-          ap items w.clause-is ∙ w.write_in.ensures.items in
+          ap items w.clause-is ∙ w.put.ensures.items ∙ ap (λ z. items c.loop-i.clause ++ z ∷ []) (to_z-of_z w32 w.yes.result (search rules) ∙ w.yes.ensures ∙ ap lit w.variable_at.ensures) in
           let n : length (items now) ≡ length (items c.loop-i.clause) + 1 = ap length e ∙ length_push (items c.loop-i.clause) _ in (
-            written_more _ c.args.packages.now c.args.before c.loop-i.i _ _ _ _ c.loop-i-test.true (sym w.if-satisfies_one.ensures) e c.loop-i.invariant.0,
+            written_more _ c.args.stanzas.now.rows.now c.args.before c.loop-i.i _ _ _ _ c.loop-i-test.true (sym w.if-satisfies_one.ensures) e c.loop-i.invariant.0,
             omega (arith, n, c.loop-i.invariant.1),
-            ap room w.clause-is ∙ w.write_in.ensures.room ∙ c.loop-i.invariant.2,
+            ap room w.clause-is ∙ w.put.ensures.room ∙ c.loop-i.invariant.2,
           )
       | else-satisfies_one w ↦ (
-        written_same _ c.args.packages.now c.args.before c.loop-i.i _ _ _ _ c.loop-i-test.true (sym w.if-satisfies_one.ensures) (ap items w.clause-is) c.loop-i.invariant.0,
+        written_same _ c.args.stanzas.now.rows.now c.args.before c.loop-i.i _ _ _ _ c.loop-i-test.true (sym w.if-satisfies_one.ensures) (ap items w.clause-is) c.loop-i.invariant.0,
         omega (arith, ap (λ y. length (items y)) w.clause-is, c.loop-i.invariant.1),
         ap room w.clause-is ∙ c.loop-i.invariant.2,
       )
@@ -27,7 +28,7 @@ loop-i-preserved c =
 
 pub returns : goal.returns
 returns c = record {
-  items = written_all _ c.args.packages.now c.args.before c.loop-i.i _ _ c.loop-i-test.false c.loop-i.invariant.0;
+  items = written_all _ c.args.stanzas.now.rows.now c.args.before c.loop-i.i _ _ c.loop-i-test.false c.loop-i.invariant.0;
   len = omega (arith, c.loop-i.invariant.1, c.loop-i.auto.i-end);
   room = c.loop-i.invariant.2;
 }
