@@ -9,8 +9,9 @@ ghost use Rattle.problem.specs.Sets.{set_of};
 ghost use Rattle.problem.specs.declared.standing.Standing.TheVariants.{Unnamed};
 ghost use Rattle.verdict.specs.Verdicts.{length_ok, lengths_ok, on_plan, on_answer, on_problem, judged, line_of, Means};
 
+use crate::counts::Counts;
 use crate::fault::VerdictFault;
-use crate::line::{Counts, File, Line};
+use crate::line::{File, Line};
 use problem::answer::{Answer, read_answer};
 use problem::counts::{changed_names, removed_names};
 use problem::plan_check::check_plan;
@@ -133,8 +134,7 @@ fn line_of(judgement: Result<Option<Counts>, VerdictFault>) -> Option<Line>
     ensures { result ≡ line_of judgement }
 {
     match judgement {
-        Ok(Some(counts)) => Some(Line::Plan(counts)),
-        Ok(None) => None,
-        Err(fault) => Some(Line::Refused(fault.refusal())),
+        Ok(counts) => counts.map(Line::Plan),
+        Err(fault) => Some(Line::Refused(fault.into())),
     }
 }

@@ -2,12 +2,13 @@
 ghost use Rattle.std.specs.Prelude.{◌≡◌};
 ghost use Rattle.verdict.specs.Numbers.{open_number, session_number};
 
+use crate::counts::Counts;
 use crate::reply::StepFault;
 
 #[derive(Clone, Copy, PartialEq, Eq, Debug)]
 pub enum Verdict {
-    /// The names that the plan removes and changes; no plan beats them.
-    Optimal(u32, u32),
+    /// The plan has these counts, and no plan beats them.
+    Optimal(Counts),
     /// There is no plan.
     Impossible,
 }

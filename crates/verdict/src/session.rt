@@ -6,6 +6,7 @@ ghost use Rattle.verdict.specs.Onward.{Onward};
 ghost use Rattle.verdict.specs.Opened.{desk_of, Closes, verdict_for};
 ghost use Rattle.verdict.specs.Session.{Run, Asked};
 
+use crate::counts::Counts;
 use crate::outcome::Verdict;
 use crate::reply::{Reply, StepFault};
 use crate::trying::try_step;
@@ -17,7 +18,7 @@ use clauses::base::ClauseBase;
 #[derive(Clone, Copy, PartialEq, Eq, Debug)]
 pub enum Claim {
     Fail,
-    Plan(u32, u32),
+    Plan(Counts),
 }
 
 /// An open session: the place of the last step that it accepted, and whether one added the empty clause.
@@ -105,7 +106,7 @@ impl Refuted {
     {
         match self.claim {
             Claim::Fail => Verdict::Impossible,
-            Claim::Plan(r, c) => Verdict::Optimal(r, c),
+            Claim::Plan(counts) => Verdict::Optimal(counts),
         }
     }
 }
