@@ -1,16 +1,15 @@
 -- What hint after hint says of a trial.
-use Rattle.std.proofs.Common.{◌≡◌, ℕ, suc, Bool, true, false, not, T, eqb, ◌↔◌, List, [], ◌∷◌, length, ℤ, Ok, Err, Result, sym, refl, ap, ◌∙◌, subst, inl, inr, arith, eqb→eq, T_not}
+use Rattle.std.proofs.Common.{◌≡◌, ℕ, suc, Bool, true, false, not, T, eqb, ◌↔◌, List, [], ◌∷◌, length, ℤ, Ok, Result, sym, refl, ap, ◌∙◌, subst, inl, inr, arith, eqb→eq, T_not}
 use mathlib.Core.Logic.Iff
 use Rattle.text.specs.Lists.{Each}
 use Rattle.text.specs.Literals.{Clause}
 use Rattle.clauses.specs.Propagation.{Held, Values, value, is_false, Chain, HeldAt, set_true, all_false, Unit'}
 use Rattle.clauses.specs.ClauseBase.{Meaning, Trial, idle, running, answered, is_live, with_trial}
 use Rattle.clauses.specs.declared.fault.BaseFault.{BaseFault}
-use Rattle.clauses.specs.declared.fault.BaseFault.TheVariants.{Malformed, NotLive, NoRoom, InTrial}
 use Rattle.clauses.specs.declared.fault.Hinted.{Hinted}
 use Rattle.clauses.specs.declared.fault.Hinted.TheVariants.{Conflict, Useless, Unit as OneLeft}
 use Rattle.verdict.specs.Session.{DeadHint}
-use Rattle.clauses.specs.Calls.{Hints, Says, NotRunning}
+use Rattle.clauses.specs.Calls.{Hints, Says}
 use Rattle.verdict.specs.Calls.{Follow}
 use Rattle.text.proofs.Members.{each_from_every}
 use Rattle.verdict.proofs.Complete.{held_live, held_once, unit_once, each_middle, not_false_and_unset}
@@ -119,29 +118,6 @@ module _ (live : List Held) (hs : List ℕ) (h : ℕ) (r : List ℕ) where
       at (n ∷ r) true e x y = let z : suc (length r) ≡ 0 = eqb→eq (suc (length r)) 0 (subst T e tt) in absurd (omega arith)
       at (n ∷ r) false e x y = ((λ d. stops_dead live f' h s.0 s.1.0 none' (n ∷ r) (y.1 d)), λ k. stops_chain live f' h s.0 s.1.0 none' n r (x.1 k))
 
-  fault_on : (t t' : Trial) (e : BaseFault) → AlongOn live t hs t' (h ∷ r) → (m m' : Meaning) → m.trial ≡ t' → m.live ≡ live → Hints m h (Err e) m' → Follow live t hs (Err e)
-  fault_on idle t' e a m m' x y s = tt
-  fault_on answered t' e a m m' x y s = tt
-  fault_on (running f) idle e a m m' x y s = absurd a
-  fault_on (running f) answered e a m m' x y s = absurd a
-  fault_on (running f) (running f') Malformed a m m' x y s = absurd s
-  fault_on (running f) (running f') NoRoom a m m' x y s = absurd s
-  fault_on (running f) (running f') InTrial a m m' x y s = absurd (subst NotRunning x s.0)
-  fault_on (running f) (running f') NotLive a m m' x y s = a.1.0 (inl (subst (λ z. T (not (is_live z h))) y s.1))
-
-end_on : (live : List Held) (hs : List ℕ) (t t' : Trial) → AlongOn live t hs t' [] → Follow live t hs (Ok false)
-end_on live hs idle t' a = tt
-end_on live hs answered t' a = tt
-end_on live hs (running f) idle a = absurd a
-end_on live hs (running f) answered a = absurd a
-end_on live hs (running f) (running f') a = ((λ d. absurd (a.1.1 d)), λ k. absurd (a.0.1 k))
-
-fault_same : (m m' : Meaning) (h : ℕ) (e : BaseFault) → Hints m h (Err e) m' → m' ≡ m
-fault_same m m' h Malformed s = absurd s
-fault_same m m' h NoRoom s = absurd s
-fault_same m m' h InTrial s = s.1
-fault_same m m' h NotLive s = s.2
-
 -- the same over whole meanings
 module _ (m m' m'' : Meaning) (hs : List ℕ) (h : ℕ) (r : List ℕ) (along : Along m hs m' (h ∷ r)) where
   said : (a : Hinted) → Says m'.trial m'.live h a m''.trial → Says m'.trial m.live h a m''.trial
@@ -155,12 +131,3 @@ module _ (m m' m'' : Meaning) (hs : List ℕ) (h : ℕ) (r : List ℕ) (along : 
 
   pub along_conflict : (b : Bool) → b ≡ eqb (length r) 0 → Hints m' h (Ok Conflict) m'' → Shows m hs (Ok b) m''
   along_conflict b e s = (conflict_on m.live hs h r m.trial m'.trial m''.trial b e along.1 (said Conflict s.0), both m m' m'' along.0 s.1)
-
-  pub along_fault : (e : BaseFault) → Hints m' h (Err e) m'' → Shows m hs (Err e) m''
-  along_fault e s = (
-    fault_on m.live hs h r m.trial m'.trial e along.1 m' m'' refl (same_live m m' along.0) s,
-    let same : m'' ≡ m' = fault_same m' m'' h e s in subst (λ y. y ≡ with_trial m y.trial) (sym same) along.0,
-  )
-
-pub along_end : (m m' : Meaning) (hs : List ℕ) → Along m hs m' [] → Shows m hs (Ok false) m'
-along_end m m' hs a = (end_on m.live hs m.trial m'.trial a.1, a.0)

@@ -73,9 +73,7 @@ impl Open {
             Ok(Some(found)) => match try_step(base, found.shape, literals, hints) {
                 Ok(empty) => {
                     self.last = found.place;
-                    if empty {
-                        self.emptied = true;
-                    }
+                    self.emptied |= empty;
                     Reply::Taken
                 }
                 Err(f) => Reply::Refused(f, found.place),
@@ -143,8 +141,7 @@ fn ask_each<B: ClauseBase, S: Source>(
     while !session.emptied {
         match session.ask(base, source, literals, hints) {
             Reply::Taken => {}
-            Reply::Refused(f, p) => return Reply::Refused(f, p),
-            Reply::Nothing => return Reply::Nothing,
+            last => return last,
         }
     }
     Reply::Taken

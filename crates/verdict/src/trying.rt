@@ -1,8 +1,9 @@
 //! One step tried on a clause base.
 ghost use Rattle.std.specs.Prelude.{◌≡◌, ◌≤◌, length, option_map};
 ghost use Rattle.clauses.specs.ClauseBase.{with_trial};
+ghost use Rattle.certificate.specs.Stream.{add};
 ghost use Rattle.certificate.specs.Reading.{step_in, memory_of, literals_in, hints_in};
-ghost use Rattle.verdict.specs.Calls.{Tells, Follow, Settles, Tries};
+ghost use Rattle.verdict.specs.Calls.{Tells, Follow, Tries, Tried};
 
 use crate::reply::StepFault;
 use certificate::found::Shape;
@@ -43,11 +44,15 @@ pub fn follows<B: ClauseBase>(
     answer
 }
 
-/// Adds a clause that was shown, and says whether it is empty.
-fn settle<B: ClauseBase>(base: &mut B, clause: &[i32], shown: bool) -> Result<bool, StepFault>
-    ensures { Settles (B.meaning base.old) clause.now shown result (B.meaning base.new) }
+/// Adds a clause that follows, and says whether it is empty.
+fn try_add<B: ClauseBase>(
+    base: &mut B,
+    clause: &[i32],
+    hints: Option<&[u32]>,
+) -> Result<bool, StepFault>
+    ensures { Tried (B.meaning base.old) (add clause.now (option_map (λ h. h.now) hints.entry)) result (B.meaning base.new) }
 {
-    if !shown {
+    if !follows(base, clause, hints)? {
         return Err(StepFault::NotShown);
     }
     base.add(clause)?;
@@ -69,15 +74,7 @@ pub(crate) fn try_step<B: ClauseBase>(
             base.delete(n)?;
             Ok(false)
         }
-        Shape::Add(n) => {
-            let clause = &literals[..n];
-            let shown = follows(base, clause, None)?;
-            settle(base, clause, shown)
-        }
-        Shape::AddHinted(n, k) => {
-            let clause = &literals[..n];
-            let shown = follows(base, clause, Some(&hints[..k]))?;
-            settle(base, clause, shown)
-        }
+        Shape::Add(n) => try_add(base, &literals[..n], None),
+        Shape::AddHinted(n, k) => try_add(base, &literals[..n], Some(&hints[..k])),
     }
 }
