@@ -44,7 +44,3 @@ off_more k d d' r i ps e x = asked_off k d d' d.source.steps d.source.ending r r
 pub leaves_more : (k k' : Memory) (ps qs : List Placed) (i : ℕ) (ls : List ℤ) (hs : List ℕ) (ls' : List ℤ) (hs' : List ℕ) → k' ≡ k → qs ≡ drop i ps → Leaves k' qs ls' hs' → LeavesAfter k ps (i + 1) ls hs ls' hs'
 leaves_more k k' ps qs i ls hs ls' hs' e f x =
     subst (λ n. LeavesAfter k ps n ls hs ls' hs') (sym (add-one i)) (subst (λ y. Leaves k y ls' hs') f (subst (λ y. Leaves y qs ls' hs') e x))
-
--- memory of the same size, that held other numbers at first
-pub leaves_from : (k k' : Memory) (ps : List Placed) (n : ℕ) (ls₀ ls : List ℤ) (hs : List ℕ) (ls' : List ℤ) (hs' : List ℕ) → k' ≡ k → ls₀ ≡ ls → LeavesAfter k' ps n ls₀ hs ls' hs' → LeavesAfter k ps n ls hs ls' hs'
-leaves_from k k' ps n ls₀ ls hs ls' hs' e f x = subst (λ y. LeavesAfter k ps n y hs ls' hs') f (subst (λ y. LeavesAfter y ps n ls₀ hs ls' hs') e x)
