@@ -1,5 +1,5 @@
 -- What hint after hint says of a trial.
-use Rattle.std.proofs.Common.{◌≡◌, ℕ, suc, Bool, true, false, not, T, eqb, ◌↔◌, List, [], ◌∷◌, length, ℤ, Ok, Result, sym, refl, ap, ◌∙◌, subst, inl, inr, arith, eqb→eq, T_not}
+use Rattle.std.proofs.Common.{◌≡◌, ℕ, suc, Bool, true, false, not, T, eqb, ◌↔◌, List, [], ◌∷◌, length, ℤ, Ok, Result, sym, ap, ◌∙◌, subst, inl, inr, arith, eqb→eq, T_not}
 use mathlib.Core.Logic.Iff
 use Rattle.text.specs.Lists.{Each}
 use Rattle.text.specs.Literals.{Clause}
@@ -69,14 +69,6 @@ Along m hs m' r = (m' ≡ with_trial m m'.trial) × AlongOn m.live m.trial hs m'
 
 abbrev pub Shows : Meaning → List ℕ → Result Bool BaseFault → Meaning → Type 0
 Shows m hs b m' = Follow m.live m.trial hs b × (m' ≡ with_trial m m'.trial)
-
-pub along_start : (m : Meaning) (hs : List ℕ) → Along m hs m hs
-along_start m hs = (refl, on m.trial)
-  where
-    on : (t : Trial) → AlongOn m.live t hs t hs
-    on idle = tt
-    on (running f) = (((λ k. k), λ k. k), ((λ k. k), λ k. k))
-    on answered = tt
 
 same_live : (m m' : Meaning) → m' ≡ with_trial m m'.trial → m'.live ≡ m.live
 same_live m m' e = ap (λ y. y.live) e

@@ -30,9 +30,6 @@ pub record Laid (m : Meaning) (cs : List Clause) (i : ℕ) (m' : Meaning) : Type
   pub room : m'.room ≡ m.room
   pub variables : m'.variables ≡ m.variables
 
-pub laid_none : (m : Meaning) (cs : List Clause) → Laid m cs 0 m
-laid_none m cs = record { is = refl; fit = refl; trial = refl; room = refl; variables = refl }
-
 and_true : (a b : Bool) → T a → (a && b) ≡ b
 and_true true b t = refl
 and_true false b t = absurd t
