@@ -1,5 +1,5 @@
 -- Steps asked one after the other.
-use Rattle.std.proofs.Common.{◌≡◌, ℕ, zero, suc, ◌+◌, ◌<◌, ◌≤◌, List, [], ◌∷◌, ◌++◌, length, take, drop, set, ℤ, sym, refl, ap, ◌∙◌, subst, add-one, take_all, take-suc-set}
+use Rattle.std.proofs.Common.{◌≡◌, ℕ, zero, suc, ◌+◌, ◌<◌, List, [], ◌∷◌, ◌++◌, length, take, drop, set, ℤ, sym, refl, ap, ◌∙◌, subst, add-one, take-suc-set}
 use Rattle.certificate.specs.Stream.{Placed, Ending, finished, broken}
 use Rattle.certificate.specs.Reading.{Memory, memory_of, Leaves}
 use Rattle.verdict.specs.Session.{Desk, Judged, AskedOf, Asked, Run}
@@ -18,9 +18,6 @@ same_memory ls ls' hs hs' e f = ap {B = Memory} (λ n. record { literals = n; hi
 pub run_write : (k k' : Memory) (d : Desk) (rs : List Reply) (i : ℕ) (d' : Desk) (r : Reply) (d'' : Desk) → i < length rs → k' ≡ k → Run k d (take i rs) d' → Asked k' d' r d'' → Run k d (take (i + 1) (set rs i r)) d''
 run_write k k' d rs i d' r d'' h e x a =
     subst (λ y. Run k d y d'') (sym (ap (λ n. take n (set rs i r)) (add-one i) ∙ take-suc-set rs i r h)) (run_more k d (take i rs) d' r d'' x (subst (λ y. Asked y d' r d'') e a))
-
-pub run_all : (k : Memory) (d : Desk) (rs : List Reply) (i : ℕ) (d' : Desk) → length rs ≤ i → Run k d (take i rs) d' → Run k d rs d'
-run_all k d rs i d' h x = subst (λ y. Run k d y d') (take_all i rs h) x
 
 -- each step asked is taken off the source
 judged_off : (k : Memory) (d d' : Desk) (p : Placed) (ps : List Placed) (r : Reply) → Judged k d p ps r d' → d'.source.steps ≡ ps

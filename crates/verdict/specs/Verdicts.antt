@@ -1,5 +1,5 @@
 -- The line that three files come to.
--- Rooms: how many rows the lent memory has
+-- Rooms: how many rows the lent memory has; rooms_of: of such memory
 -- length_ok, lengths_ok: a file is not too long; none of them is, the problem first
 -- judged: a plan's counts, nothing where a certificate would have to be checked, or the first fault: file lengths, problem, answer, plan check
 -- line_of: the line for it
@@ -13,6 +13,8 @@ use Rattle.problem.specs.Reading.{read_problem}
 use Rattle.problem.specs.Sets.{set_of}
 use Rattle.problem.specs.declared.fault.AnswerFault.{AnswerFault}
 use Rattle.problem.specs.declared.fault.ProblemFault.{ProblemFault}
+use Rattle.problem.specs.declared.rows.ConstraintRow.{ConstraintRow}
+use Rattle.problem.specs.declared.rows.PackageRow.{PackageRow}
 use Rattle.problem.specs.declared.standing.Standing.{Standing}
 use Rattle.verdict.specs.Counted.{counts_of}
 use Rattle.verdict.specs.Refusal.{refused}
@@ -28,6 +30,9 @@ pub record Rooms : Type 0 where
   pub packages : ℕ
   pub constraints : ℕ
   pub table : ℕ
+
+abbrev pub rooms_of : List PackageRow → List ConstraintRow → List Standing → Rooms
+rooms_of ps cs t = record { packages = length ps; constraints = length cs; table = length t }
 
 -- the most bytes of a file
 abbrev pub longest : ℕ

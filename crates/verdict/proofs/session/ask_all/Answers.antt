@@ -1,8 +1,7 @@
-use Rattle.std.proofs.Common.{◌≡◌, length, ◌∙◌, subst, arith}
+use Rattle.std.proofs.Common.{◌∙◌, arith}
 use Rattle.certificate.specs.Reading.{memory_of}
-use Rattle.verdict.specs.Calls.{LeavesAfter}
 use Rattle.verdict.specs.Opened.{desk_of}
-use Rattle.verdict.proofs.Asking.{same_memory, run_write, run_all, off_more, leaves_more}
+use Rattle.verdict.proofs.Asking.{same_memory, run_write, off_more, leaves_more}
 use Rattle.verdict.proofs.session.ask_all.Goals as goal
 
 pub loop-r-preserved : goal.loop-r-preserved
@@ -20,15 +19,3 @@ loop-r-preserved g c =
       off_more k' dᵢ d' c.ask.result c.loop-r.r-index s.steps c.loop-r.invariant.2 c.ask.ensures.asked,
       leaves_more k k' s.steps sᵢ.steps c.loop-r.r-index c.args.literals.now c.args.hints.now c.ask.new.literals c.ask.new.hints e c.loop-r.invariant.2 c.ask.ensures.memory,
     )
-
-pub returns : goal.returns
-returns g c =
-    let k = memory_of c.args.literals.now c.args.hints.now in
-    let s = g.S.Source.rest c.args.source.now in
-    let e : c.loop-r.r-index ≡ length c.args.replies.now = omega arith in
-    record {
-      run = run_all k (desk_of c.args.session.now (g.B.ClauseBase.meaning c.args.base.now) s)
-          c.loop-r.replies c.loop-r.r-index (desk_of c.loop-r.session (g.B.ClauseBase.meaning c.loop-r.base) (g.S.Source.rest c.loop-r.source)) (omega arith) c.loop-r.invariant.0;
-      claim = c.loop-r.invariant.1;
-      memory = subst (λ n. LeavesAfter k s.steps n c.args.literals.now c.args.hints.now c.loop-r.literals c.loop-r.hints) e c.loop-r.invariant.3;
-    }

@@ -1,8 +1,8 @@
-use Rattle.std.proofs.Common.{◌≡◌, ◌<◌, length, Ok, Err, subst, arith}
+use Rattle.std.proofs.Common.{◌<◌, length, Ok, Err, subst, arith}
 use Rattle.std.proofs.lemmas.Result.{err_from_is_err_and}
 use Rattle.verdict.specs.Session.{opening_clauses}
 use Rattle.clauses.specs.Calls.{Clears, Adds}
-use Rattle.verdict.proofs.Laying.{Laid, laid_next, lays_ok, lays_fault}
+use Rattle.verdict.proofs.Laying.{laid_next, lays_fault}
 use Rattle.verdict.proofs.Rising.{opening_formed}
 use Rattle.verdict.proofs.whole.lay.Goals as goal
 
@@ -31,13 +31,3 @@ loop-i-preserved g c =
     let below : c.loop-i.i < length (opening_clauses q a) = omega arith in
     laid_next (g.B.ClauseBase.meaning c.clear.new.self) (opening_clauses q a) c.loop-i.i mᵢ below c.loop-i.invariant c.in_ok-add.field-0 m''
     (subst (λ y. Adds mᵢ y (Ok c.in_ok-add.field-0) m'') c.clause-n.ensures.is c.in_ok-add.ensures)
-
-pub returns : goal.returns
-returns g c =
-    let q = g.C.Case.problem c.args.case.now in
-    let a = g.C.Case.answer c.args.case.now in
-    let m = g.B.ClauseBase.meaning c.args.base.now in
-    let m₁ = g.B.ClauseBase.meaning c.clear.new.self in
-    let m' = g.B.ClauseBase.meaning c.loop-i.base in
-    let e : c.loop-i.i ≡ length (opening_clauses q a) = omega arith in
-    lays_ok m q a m₁ m' (subst (λ y. Clears m y (Ok tt) m₁) c.variables.ensures c.in_ok-clear.ensures) (subst (λ y. Laid m₁ (opening_clauses q a) y m') e c.loop-i.invariant)
