@@ -41,9 +41,7 @@ pub(crate) fn open<B: ClauseBase, C: Case>(
     ensures memory { OpeningLeaves literals.old result literals.new }
     ensures opens { Opens (B.meaning base.old) (C.problem case.now) (C.answer case.now) result (B.meaning base.new) }
 {
-    if base.clear(0).is_err() {
-        return Err(OpenFault::InTrial);
-    }
+    base.clear(0).map_err(|_| OpenFault::InTrial)?;
     if let Some(n) = case.plan_fault() {
         return Err(OpenFault::NotPlan(n));
     }

@@ -1,4 +1,4 @@
-use Rattle.std.proofs.Common.{◌∙◌, arith}
+use Rattle.std.proofs.Common.{arith, rules}
 use Rattle.certificate.specs.Reading.{memory_of}
 use Rattle.verdict.specs.Opened.{desk_of}
 use Rattle.verdict.proofs.Asking.{same_memory, run_write, off_more, leaves_more}
@@ -13,9 +13,10 @@ loop-r-preserved g c =
     let d = desk_of c.args.session.now (g.B.ClauseBase.meaning c.args.base.now) s in
     let dᵢ = desk_of c.loop-r.session (g.B.ClauseBase.meaning c.loop-r.base) sᵢ in
     let d' = desk_of c.ask.new.self (g.B.ClauseBase.meaning c.ask.new.base) (g.S.Source.rest c.ask.new.source) in
-    let e = same_memory c.loop-r.literals c.args.literals.now c.loop-r.hints c.args.hints.now c.loop-r.auto.literals c.loop-r.auto.hints in (
-      run_write k k' d c.loop-r.replies c.loop-r.r-index dᵢ c.ask.result d' (omega arith) e c.loop-r.invariant.0 c.ask.ensures.asked,
-      c.ask.ensures.claim ∙ c.loop-r.invariant.1,
-      off_more k' dᵢ d' c.ask.result c.loop-r.r-index s.steps c.loop-r.invariant.2 c.ask.ensures.asked,
-      leaves_more k k' s.steps sᵢ.steps c.loop-r.r-index c.args.literals.now c.args.hints.now c.ask.new.literals c.ask.new.hints e c.loop-r.invariant.2 c.ask.ensures.memory,
-    )
+    let e = same_memory c.loop-r.literals c.args.literals.now c.loop-r.hints c.args.hints.now c.loop-r.auto.literals c.loop-r.auto.hints in
+    record {
+      run = run_write k k' d c.loop-r.replies c.loop-r.r-index dᵢ c.ask.result d' (omega arith) e c.loop-r.invariant.run c.ask.ensures.asked;
+      claim = search rules;
+      steps = off_more k' dᵢ d' c.ask.result c.loop-r.r-index s.steps c.loop-r.invariant.steps c.ask.ensures.asked;
+      memory = leaves_more k k' s.steps sᵢ.steps c.loop-r.r-index c.args.literals.now c.args.hints.now c.ask.new.literals c.ask.new.hints e c.loop-r.invariant.steps c.ask.ensures.memory;
+    }
