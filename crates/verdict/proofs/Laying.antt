@@ -43,8 +43,8 @@ module _ (m : Meaning) (cs : List Clause) (i : ℕ) (m' : Meaning) (below : i < 
   split : fit_all m cs ≡ (fits m' here && fit_all (with_added m' here) (drop (i + 1) cs))
   split = laid.fit ∙ ap (fit_all m') (drop-cons cs i [] below) ∙ ap (λ y. fits m' here && fit_all (with_added m' here) (drop y cs)) (sym (add-one i))
 
-  pub laid_next : (n : ℕ) (m'' : Meaning) → Adds m' here (Ok n) m'' → Laid m cs (i + 1) m''
-  laid_next n m'' a = subst (Laid m cs (i + 1)) (sym a.4) (record {
+  pub laid_next : (c : Clause) (n : ℕ) (m'' : Meaning) → c ≡ here → Adds m' c (Ok n) m'' → Laid m cs (i + 1) m''
+  laid_next c n m'' e x = let a = subst (λ y. Adds m' y (Ok n) m'') e x in subst (Laid m cs (i + 1)) (sym a.4) (record {
     is = ap (λ y. with_added y here) laid.is ∙ sym (added_more m (take i cs) here) ∙ ap (added_all m) (sym (ap (λ y. take y cs) (add-one i) ∙ take-suc cs i [] below));
     fit = split ∙ and_true (fits m' here) (fit_all (with_added m' here) (drop (i + 1) cs)) a.2;
     trial = laid.trial;
@@ -61,10 +61,11 @@ module _ (m : Meaning) (cs : List Clause) (i : ℕ) (m' : Meaning) (below : i < 
 
 -- and over the base as it was before it was cleared
 module _ (m : Meaning) (q : Problem) (a : Answer) where
-  pub lays_fault : (m₁ m' m'' : Meaning) (i : ℕ) (f : BaseFault) → Clears m (opening_variables q a) (Ok tt) m₁ → i < length (opening_clauses q a) → Laid m₁ (opening_clauses q a) i m' → Formed q a →
-      Adds m' (get_or (opening_clauses q a) i []) (Err f) m'' → Lays m q a (Err f) m''
-  lays_fault m₁ m' m'' i f c below l formed x =
-      let w = laid_fault (cleared m (opening_variables q a)) (opening_clauses q a) i m' below (subst (λ y. Laid y (opening_clauses q a) i m') c.2 l) f m'' x refl (each_at (λ d. T (well_formed (opening_variables q a) d)) [] (opening_clauses q a) i formed below) in
+  pub lays_fault : (m₁ m' m'' : Meaning) (v i : ℕ) (d : Clause) (f : BaseFault) → v ≡ opening_variables q a → Clears m v (Ok tt) m₁ → i < length (opening_clauses q a) → Laid m₁ (opening_clauses q a) i m' → Formed q a →
+      d ≡ get_or (opening_clauses q a) i [] → Adds m' d (Err f) m'' → Lays m q a (Err f) m''
+  lays_fault m₁ m' m'' v i d f e z below l formed g x =
+      let c = subst (λ y. Clears m y (Ok tt) m₁) e z in
+      let w = laid_fault (cleared m (opening_variables q a)) (opening_clauses q a) i m' below (subst (λ y. Laid y (opening_clauses q a) i m') c.2 l) f m'' (subst (λ y. Adds m' y (Err f) m'') g x) refl (each_at (λ d. T (well_formed (opening_variables q a) d)) [] (opening_clauses q a) i formed below) in
       (and-not (leb (opening_variables q a) m.room.variables) _ w.0, w.1, w.2)
     where
       and-not : (x y : Bool) → T (not y) → T (not (x && y))
