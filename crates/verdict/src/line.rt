@@ -26,6 +26,7 @@ pub struct Refusal {
 }
 
 /// What a run comes to.
+// No `Result`: the verdicts of sessions are to become lines too.
 #[derive(Clone, Copy, PartialEq, Eq, Debug)]
 pub enum Line {
     Plan(Counts),

@@ -7,6 +7,7 @@ ghost use Rattle.verdict.specs.declared.outcome.SessionFault.TheVariants.{Openin
 use crate::counts::Counts;
 use crate::reply::StepFault;
 
+/// The verdict on a `Claim`.
 #[derive(Clone, Copy, PartialEq, Eq, Debug)]
 pub enum Verdict {
     /// The plan has these counts, and no plan beats them.
@@ -40,6 +41,7 @@ pub enum RunFault {
     Step(StepFault, u32),
 }
 
+// Written out, as the clauses of the calls name what `?` makes of a fault.
 impl From<OpenFault> for SessionFault {
     ghost from_gives = { λ f r. r ≡ Opening f };
 

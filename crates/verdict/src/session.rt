@@ -15,6 +15,7 @@ use certificate::source::Source;
 use clauses::base::ClauseBase;
 
 /// What a session was opened on: no plan is claimed to exist, or a plan with its counts.
+// No `Option`: that there is no plan is claimed too.
 #[derive(Clone, Copy, PartialEq, Eq, Debug)]
 pub enum Claim {
     Fail,
@@ -55,6 +56,7 @@ impl Open {
     }
 
     /// Asks one step: reads it, and takes it or refuses it.
+    // Literals and hints are lent apart: that a call leaves the same memory, as long, a `&mut` slice says by itself.
     pub fn ask<B: ClauseBase, S: Source>(
         &mut self,
         base: &mut B,

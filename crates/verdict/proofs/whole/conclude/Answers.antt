@@ -9,19 +9,21 @@ pub returns : goal.returns
 returns g c =
     let q = g.C.Case.problem c.args.case.now in
     let a = g.C.Case.answer c.args.case.now in
-    let k = memory_of c.args.literals.now c.args.hints.now in
-    let m = g.B.ClauseBase.meaning c.args.base.now in
-    let m' = g.B.ClauseBase.meaning c.ask_on-reply.new.base in
+    let m = g.B.ClauseBase.meaning in
     let s = g.S.Source.rest c.args.source.now in
     let s' = g.S.Source.rest c.ask_on-reply.new.source in
+    let k = memory_of c.args.literals.now c.args.hints.now in
+    let k' = memory_of c.open.new.literals c.args.hints.now in
     let same = same_memory c.open.new.literals c.args.literals.now c.args.hints.now c.args.hints.now c.open.auto.literals refl in
-    let w = finds q a k (memory_of c.open.new.literals c.args.hints.now) m (g.B.ClauseBase.meaning c.open.new.base) m' s s' c.in_ok-session.session c.ask_on-reply.new.session c.in_ok-session.ensures.opens same c.ask_on-reply.ensures.claim c.ask_on-reply.result c.end.result c.ask_on-reply.ensures.onward c.end.ensures in
+    let w = finds q a k k' (m c.args.base.now) (m c.open.new.base) (m c.ask_on-reply.new.base) s s' c.in_ok-session.session c.ask_on-reply.new.session c.in_ok-session.ensures.opens same c.ask_on-reply.ensures.claim c.ask_on-reply.result c.end.result c.ask_on-reply.ensures.onward c.end.ensures in
     record {
       memory = search rules;
       run = w;
-      sound = found_true q a k m m' s s' c.end.result w;
-      complete = found q a k m m' s s' c.end.result w;
+      sound = found_true q a k (m c.args.base.now) (m c.ask_on-reply.new.base) s s' c.end.result w;
+      complete = found q a k (m c.args.base.now) (m c.ask_on-reply.new.base) s s' c.end.result w;
     }
 
 pub returns-in_err-session-clause-complete : goal.returns-in_err-session-clause-complete
-returns-in_err-session-clause-complete g c = λ i p t good. absurd (not_opened (g.C.Case.problem c.args.case.now) (g.C.Case.answer c.args.case.now) (g.B.ClauseBase.meaning c.args.base.now) (g.B.ClauseBase.meaning c.open.new.base) c.in_err-session.field-0.0 c.in_err-session.ensures.opens i p t)
+returns-in_err-session-clause-complete g c =
+    let m = g.B.ClauseBase.meaning in
+    λ i p t good. absurd (not_opened (g.C.Case.problem c.args.case.now) (g.C.Case.answer c.args.case.now) (m c.args.base.now) (m c.open.new.base) c.in_err-session.field-0.0 c.in_err-session.ensures.opens i p t)

@@ -8,21 +8,23 @@ pub returns : goal.returns
 returns g c =
     let q = g.C.Case.problem c.args.case.now in
     let a = g.C.Case.answer c.args.case.now in
-    let k = memory_of c.args.literals.now c.args.hints.now in
-    let m = g.B.ClauseBase.meaning c.args.base.now in
-    let m' = g.B.ClauseBase.meaning c.ask_all.new.base in
+    let m = g.B.ClauseBase.meaning in
     let s = g.S.Source.rest c.args.source.now in
     let s' = g.S.Source.rest c.ask_all.new.source in
     let rs = c.args.replies.now in
     let rs' = c.ask_all.new.replies in
+    let k = memory_of c.args.literals.now c.args.hints.now in
+    let k' = memory_of c.open.new.literals c.args.hints.now in
     let same = same_memory c.open.new.literals c.args.literals.now c.args.hints.now c.args.hints.now c.open.auto.literals refl in
-    let w = concludes q a k (memory_of c.open.new.literals c.args.hints.now) m (g.B.ClauseBase.meaning c.open.new.base) m' s s' c.in_ok-session.session c.ask_all.new.session rs' c.in_ok-session.ensures.opens same c.ask_all.ensures.run rs c.close.result c.ask_all.ensures.claim c.close.ensures in
+    let w = concludes q a k k' (m c.args.base.now) (m c.open.new.base) (m c.ask_all.new.base) s s' c.in_ok-session.session c.ask_all.new.session rs' c.in_ok-session.ensures.opens same c.ask_all.ensures.run rs c.close.result c.ask_all.ensures.claim c.close.ensures in
     record {
       run = w;
       memory = search rules;
-      sound = verdict_true q a k m m' s s' rs rs' c.close.result w;
-      complete = complete q a k m m' s s' rs rs' (length rs) c.ask_all.auto.replies c.close.result w;
+      sound = verdict_true q a k (m c.args.base.now) (m c.ask_all.new.base) s s' rs rs' c.close.result w;
+      complete = complete q a k (m c.args.base.now) (m c.ask_all.new.base) s s' rs rs' (length rs) c.ask_all.auto.replies c.close.result w;
     }
 
 pub returns-in_err-session-clause-complete : goal.returns-in_err-session-clause-complete
-returns-in_err-session-clause-complete g c = λ i p t good within. absurd (not_opened (g.C.Case.problem c.args.case.now) (g.C.Case.answer c.args.case.now) (g.B.ClauseBase.meaning c.args.base.now) (g.B.ClauseBase.meaning c.open.new.base) c.in_err-session.field-0.0 c.in_err-session.ensures.opens i p t)
+returns-in_err-session-clause-complete g c =
+    let m = g.B.ClauseBase.meaning in
+    λ i p t good within. absurd (not_opened (g.C.Case.problem c.args.case.now) (g.C.Case.answer c.args.case.now) (m c.args.base.now) (m c.open.new.base) c.in_err-session.field-0.0 c.in_err-session.ensures.opens i p t)
