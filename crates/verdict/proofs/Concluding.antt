@@ -1,7 +1,6 @@
 -- A session from its opening to its verdict.
-use Rattle.std.proofs.Common.{◌≡◌, ℕ, suc, ◌≤◌, not, T, List, length, Some, None, Ok, Err, Option, Result, sym, refl, ap, ◌∙◌, subst, T_not}
+use Rattle.std.proofs.Common.{◌≡◌, ℕ, suc, ◌≤◌, Bool, true, false, cond, not, T, List, length, Some, None, Ok, Err, Option, Result, sym, refl, ap, ◌∙◌, subst, T_not}
 use Rattle.verdict.specs.declared.session.Open.{Open}
-use Rattle.verdict.specs.declared.session.Claim.{Claim}
 use Rattle.verdict.specs.declared.outcome.OpenFault.{OpenFault}
 use Rattle.verdict.specs.declared.outcome.OpenFault.TheVariants.{NotPlan, NoRoom, InTrial}
 use Rattle.verdict.specs.declared.outcome.SessionFault.{SessionFault}
@@ -14,7 +13,7 @@ use Rattle.certificate.specs.Stream.{Stream}
 use Rattle.certificate.specs.Reading.{Memory}
 use Rattle.verdict.specs.Session.{Run, Answer, fail, set, opens, opening_fits, desk_on, IsPlanOrFail}
 use Rattle.verdict.specs.Law.{Means, verdict_of, up_to_empty}
-use Rattle.verdict.specs.Opened.{desk_of, plan_fault, claim_of, verdict_for, Opens, Concludes, TrueVerdict, Complete}
+use Rattle.verdict.specs.Opened.{desk_of, plan_fault, claim_of, verdict_for, closing, Opens, Concludes, TrueVerdict, Complete}
 use Rattle.problem.proofs.Agreement.{plans_agree}
 use Rattle.verdict.proofs.Law.{law}
 
@@ -38,12 +37,22 @@ module _ (q : Problem) (a : Answer) (k k' : Memory) (m m₁ m' : Meaning) (s s' 
       (subst (λ y. Run k' (desk_of y (opens m q a) s) rs (desk_of o' m' s')) opened.4
       (subst (λ y. Run k' (desk_of o y s) rs (desk_of o' m' s')) opened.3 ran))
 
-  pub concludes-verdict : (rs₀ : List Reply) (f : Claim) (v : Verdict) → o'.claim ≡ o.claim → T o'.emptied → f ≡ o'.claim → v ≡ verdict_for f → Concludes q a k m s rs₀ (Ok v) rs m' s'
-  concludes-verdict rs₀ f v kept e g h =
-      (desk_of o' m' s', (opened.0, opened.1, opened.2, run, refl, refl, e, h ∙ ap verdict_for (g ∙ kept ∙ ap (λ y. y.claim) opened.4) ∙ same_verdict q a))
+  pub concludes : (rs₀ : List Reply) (r : Result Verdict SessionFault) → o'.claim ≡ o.claim → r ≡ closing o' → Concludes q a k m s rs₀ r rs m' s'
+  concludes rs₀ r kept e = subst (λ y. Concludes q a k m s rs₀ y rs m' s') (sym e) (pick o'.emptied refl)
+    where
+      pick : (b : Bool) → o'.emptied ≡ b → Concludes q a k m s rs₀ (cond b (Ok (verdict_for o'.claim)) (Err (Unclosed (suc o'.last)))) rs m' s'
+      pick true t = (desk_of o' m' s', (opened.0, opened.1, opened.2, run, refl, refl, subst T (sym t) tt, ap verdict_for (kept ∙ ap (λ y. y.claim) opened.4) ∙ same_verdict q a))
+      pick false t = (desk_of o' m' s', (opened.0, opened.1, opened.2, run, refl, refl, subst (λ y. T (not y)) (sym t) tt, refl))
 
-  pub concludes-unclosed : (rs₀ : List Reply) (p : ℕ) → T (not o'.emptied) → p ≡ suc o'.last → Concludes q a k m s rs₀ (Err (Unclosed p)) rs m' s'
-  concludes-unclosed rs₀ p e g = (desk_of o' m' s', (opened.0, opened.1, opened.2, run, refl, refl, e, g))
+-- a plan, or no set at all, opens where there is room and no trial
+pub not_opened : (q : Problem) (a : Answer) (m m' : Meaning) (f : OpenFault) → Opens m q a (Err f) m' → m.trial ≡ idle → IsPlanOrFail q a → T (opening_fits m q a) → ⊥
+not_opened q a m m' InTrial o i p t = o.0 i
+not_opened q a m m' (NotPlan n) o i p t = subst there (sym (no_fault q a p) ∙ o.1) tt
+  where
+    there : Option ℕ → Type 0
+    there None = Unit {0}
+    there (Some x) = ⊥
+not_opened q a m m' NoRoom o i p t = T_not (opening_fits m q a) o.2 t
 
 -- what a whole run comes to, by the law
 module _ (q : Problem) (a : Answer) (k : Memory) (m m' : Meaning) (s s' : Stream) (rs rs' : List Reply) where
@@ -51,17 +60,8 @@ module _ (q : Problem) (a : Answer) (k : Memory) (m m' : Meaning) (s s' : Stream
   verdict_true (Ok v) c = subst (Means q a) (sym c.1.7) (law.sound q a m s k rs' c.0 (is_plan q a c.1.1) c.1.3 c.1.6)
   verdict_true (Err f) c = tt
 
-  pub not_opened : (f : OpenFault) → Opens m q a (Err f) m' → m.trial ≡ idle → IsPlanOrFail q a → T (opening_fits m q a) → ⊥
-  not_opened InTrial o i p t = o.0 i
-  not_opened (NotPlan n) o i p t = subst there (sym (no_fault q a p) ∙ o.1) tt
-    where
-      there : Option ℕ → Type 0
-      there None = Unit {0}
-      there (Some x) = ⊥
-  not_opened NoRoom o i p t = T_not (opening_fits m q a) o.2 t
-
   pub complete : (n : ℕ) → length rs' ≡ n → (r : Result Verdict SessionFault) → Concludes q a k m s rs r rs' m' s' → Complete q a k m s n r
   complete n e (Ok v) c i p t good within = ap Ok c.1.7
   complete n e (Err (Unclosed z)) c i p t good within =
       absurd (T_not c.0.emptied c.1.6 (law.complete q a m s k rs' c.0 good (subst (λ y. up_to_empty s.steps ≤ y) (sym e) within) c.1.3))
-  complete n e (Err (Opening f)) c i p t good within = absurd (not_opened f c.0 i p t)
+  complete n e (Err (Opening f)) c i p t good within = absurd (not_opened q a m m' f c.0 i p t)

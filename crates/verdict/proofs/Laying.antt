@@ -1,6 +1,5 @@
 -- The clauses of an opening, laid one after the other.
 use Rattle.std.proofs.Common.{◌≡◌, ℕ, zero, suc, ◌+◌, ◌<◌, Bool, true, false, not, ◌&&◌, T, leb, List, [], ◌∷◌, ◌++◌, length, get_or, take, drop, Ok, Err, sym, refl, ap, ◌∙◌, subst, add-one, arith, T_not, drop-cons, take-suc}
-use lib.Seq.{take-length, drop-length}
 use Rattle.clauses.specs.declared.fault.BaseFault.{BaseFault}
 use Rattle.clauses.specs.declared.fault.BaseFault.TheVariants.{Malformed, NotLive, NoRoom, InTrial}
 use Rattle.text.specs.Lists.{Each}
@@ -11,7 +10,6 @@ use Rattle.verdict.specs.Session.{Answer, added_all, fit_all, opening_variables,
 use Rattle.clauses.specs.Calls.{Clears, Adds}
 use Rattle.verdict.specs.Opened.{Lays}
 use Rattle.verdict.proofs.Rising.{Formed}
-use Rattle.text.proofs.Members.{and_both}
 
 pub each_at : {X : Type 0} (P : X → Type 0) (d : X) (xs : List X) (i : ℕ) → Each P xs → i < length xs → P (get_or xs i d)
 each_at P d [] i h l = absurd (omega arith)
@@ -30,9 +28,6 @@ pub record Laid (m : Meaning) (cs : List Clause) (i : ℕ) (m' : Meaning) : Type
   pub room : m'.room ≡ m.room
   pub variables : m'.variables ≡ m.variables
 
-pub laid_none : (m : Meaning) (cs : List Clause) → Laid m cs 0 m
-laid_none m cs = record { is = refl; fit = refl; trial = refl; room = refl; variables = refl }
-
 and_true : (a b : Bool) → T a → (a && b) ≡ b
 and_true true b t = refl
 and_true false b t = absurd t
@@ -48,8 +43,8 @@ module _ (m : Meaning) (cs : List Clause) (i : ℕ) (m' : Meaning) (below : i < 
   split : fit_all m cs ≡ (fits m' here && fit_all (with_added m' here) (drop (i + 1) cs))
   split = laid.fit ∙ ap (fit_all m') (drop-cons cs i [] below) ∙ ap (λ y. fits m' here && fit_all (with_added m' here) (drop y cs)) (sym (add-one i))
 
-  pub laid_next : (n : ℕ) (m'' : Meaning) → Adds m' here (Ok n) m'' → Laid m cs (i + 1) m''
-  laid_next n m'' a = subst (Laid m cs (i + 1)) (sym a.4) (record {
+  pub laid_next : (c : Clause) (n : ℕ) (m'' : Meaning) → c ≡ here → Adds m' c (Ok n) m'' → Laid m cs (i + 1) m''
+  laid_next c n m'' e x = let a = subst (λ y. Adds m' y (Ok n) m'') e x in subst (Laid m cs (i + 1)) (sym a.4) (record {
     is = ap (λ y. with_added y here) laid.is ∙ sym (added_more m (take i cs) here) ∙ ap (added_all m) (sym (ap (λ y. take y cs) (add-one i) ∙ take-suc cs i [] below));
     fit = split ∙ and_true (fits m' here) (fit_all (with_added m' here) (drop (i + 1) cs)) a.2;
     trial = laid.trial;
@@ -64,31 +59,15 @@ module _ (m : Meaning) (cs : List Clause) (i : ℕ) (m' : Meaning) (below : i < 
   laid_fault NoRoom m'' a e w =
       (subst (λ y. T (not y)) (sym split) (and_false (fits m' here) (fit_all (with_added m' here) (drop (i + 1) cs)) a.2), ap (λ y. y.trial) a.3 ∙ laid.trial ∙ e, ap (λ y. y.room) a.3 ∙ laid.room)
 
-pub laid_all : (m : Meaning) (cs : List Clause) (m' : Meaning) → Laid m cs (length cs) m' → T (fit_all m cs) × (m' ≡ added_all m cs)
-laid_all m cs m' l = (
-  subst T (sym (l.fit ∙ ap (fit_all m') (drop-length cs))) tt,
-  l.is ∙ ap (added_all m) (take-length cs),
-)
-
 -- and over the base as it was before it was cleared
 module _ (m : Meaning) (q : Problem) (a : Answer) where
-  pub lays_ok : (m₁ m' : Meaning) → Clears m (opening_variables q a) (Ok tt) m₁ → Laid m₁ (opening_clauses q a) (length (opening_clauses q a)) m' → Lays m q a (Ok tt) m'
-  lays_ok m₁ m' c l =
-      let w = laid_all (cleared m (opening_variables q a)) (opening_clauses q a) m' (subst (λ y. Laid y (opening_clauses q a) (length (opening_clauses q a)) m') c.2 l) in
-      (and_both (leb (opening_variables q a) m.room.variables) _ c.1 w.0, w.1)
-
-  pub lays_fault : (m₁ m' m'' : Meaning) (i : ℕ) (f : BaseFault) → Clears m (opening_variables q a) (Ok tt) m₁ → i < length (opening_clauses q a) → Laid m₁ (opening_clauses q a) i m' → Formed q a →
-      Adds m' (get_or (opening_clauses q a) i []) (Err f) m'' → Lays m q a (Err f) m''
-  lays_fault m₁ m' m'' i f c below l formed x =
-      let w = laid_fault (cleared m (opening_variables q a)) (opening_clauses q a) i m' below (subst (λ y. Laid y (opening_clauses q a) i m') c.2 l) f m'' x refl (each_at (λ d. T (well_formed (opening_variables q a) d)) [] (opening_clauses q a) i formed below) in
+  pub lays_fault : (m₁ m' m'' : Meaning) (v i : ℕ) (d : Clause) (f : BaseFault) → v ≡ opening_variables q a → Clears m v (Ok tt) m₁ → i < length (opening_clauses q a) → Laid m₁ (opening_clauses q a) i m' → Formed q a →
+      d ≡ get_or (opening_clauses q a) i [] → Adds m' d (Err f) m'' → Lays m q a (Err f) m''
+  lays_fault m₁ m' m'' v i d f e z below l formed g x =
+      let c = subst (λ y. Clears m y (Ok tt) m₁) e z in
+      let w = laid_fault (cleared m (opening_variables q a)) (opening_clauses q a) i m' below (subst (λ y. Laid y (opening_clauses q a) i m') c.2 l) f m'' (subst (λ y. Adds m' y (Err f) m'') g x) refl (each_at (λ d. T (well_formed (opening_variables q a) d)) [] (opening_clauses q a) i formed below) in
       (and-not (leb (opening_variables q a) m.room.variables) _ w.0, w.1, w.2)
     where
       and-not : (x y : Bool) → T (not y) → T (not (x && y))
       and-not true y t = t
       and-not false y t = tt
-
-  pub lays_clear : (f : BaseFault) (m₁ : Meaning) → m.trial ≡ idle → Clears m (opening_variables q a) (Err f) m₁ → Lays m q a (Err f) m₁
-  lays_clear InTrial m₁ e c = absurd (c.0 e)
-  lays_clear NotLive m₁ e c = absurd c
-  lays_clear Malformed m₁ e c = absurd c
-  lays_clear NoRoom m₁ e c = (and_false (leb (opening_variables q a) m.room.variables) _ c.1, ap (λ y. y.trial) c.2 ∙ e, ap (λ y. y.room) c.2)

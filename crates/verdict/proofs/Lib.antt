@@ -22,4 +22,3 @@ pub mod Rup
 pub mod VariableRanges
 pub mod Witness
 pub mod Worded
-pub mod Written

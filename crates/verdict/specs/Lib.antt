@@ -1,4 +1,5 @@
 pub mod Calls
+pub mod Counted
 pub mod Finding
 pub mod Indicators
 pub mod Law

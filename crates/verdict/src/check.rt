@@ -7,10 +7,11 @@ ghost use Rattle.problem.specs.Reading.{read_problem};
 ghost use Rattle.problem.specs.Rows.{no_package, no_constraint};
 ghost use Rattle.problem.specs.Sets.{set_of};
 ghost use Rattle.problem.specs.declared.standing.Standing.TheVariants.{Unnamed};
-ghost use Rattle.verdict.specs.Verdicts.{length_ok, lengths_ok, on_plan, on_answer, on_problem, judged, line_of, Means};
+ghost use Rattle.verdict.specs.Verdicts.{length_ok, on_plan, on_answer, rooms_of, judged, line_of, Means};
 
+use crate::counts::Counts;
 use crate::fault::VerdictFault;
-use crate::line::{Counts, File, Line};
+use crate::line::{File, Line};
 use problem::answer::{Answer, read_answer};
 use problem::counts::{changed_names, removed_names};
 use problem::plan_check::check_plan;
@@ -30,31 +31,6 @@ fn check_length(file: File, text: &[u8]) -> Result<(), VerdictFault>
         return Err(VerdictFault::TooLong(file));
     }
     Ok(())
-}
-
-/// Refuses the first file that is too long.
-fn check_lengths(problem: &[u8], answer: &[u8], certificate: &[u8]) -> Result<(), VerdictFault>
-    ensures { result ≡ lengths_ok problem.now answer.now certificate.now }
-{
-    check_length(File::Problem, problem)?;
-    check_length(File::Answer, answer)?;
-    check_length(File::Certificate, certificate)
-}
-
-/// What the files come to: a plan's counts, or nothing where a certificate would have to be checked.
-fn judge(
-    problem_text: &[u8],
-    answer_text: &[u8],
-    certificate: &[u8],
-    packages: &mut [PackageRow],
-    constraints: &mut [ConstraintRow],
-    table: &mut [Standing],
-) -> Result<Option<Counts>, VerdictFault>
-    ensures { result ≡ on_problem (length table.old) answer_text.now certificate.now (read_problem (length packages.old) (length constraints.old) problem_text.now) }
-{
-    let mut problem = Problem::none();
-    read_problem(problem_text, packages, constraints, &mut problem)?;
-    judge_answer(&problem, answer_text, certificate, table)
 }
 
 /// What an answer to a problem comes to.
@@ -90,19 +66,24 @@ fn judge_set(
     }))
 }
 
-/// The same once their lengths are known to be within the limit.
-fn judge_files(
-    problem: &[u8],
-    answer: &[u8],
+/// What the files come to: a plan's counts, or nothing where a certificate would have to be checked.
+// The rows are lent apart: that a call leaves the same memory, as long, a `&mut` slice says by itself.
+fn judge(
+    problem_text: &[u8],
+    answer_text: &[u8],
     certificate: &[u8],
     packages: &mut [PackageRow],
     constraints: &mut [ConstraintRow],
     table: &mut [Standing],
 ) -> Result<Option<Counts>, VerdictFault>
-    ensures { result ≡ judged (record { packages = length packages.old; constraints = length constraints.old; table = length table.old }) problem.now answer.now certificate.now }
+    ensures { result ≡ judged (rooms_of packages.old constraints.old table.old) problem_text.now answer_text.now certificate.now }
 {
-    check_lengths(problem, answer, certificate)?;
-    judge(problem, answer, certificate, packages, constraints, table)
+    check_length(File::Problem, problem_text)?;
+    check_length(File::Answer, answer_text)?;
+    check_length(File::Certificate, certificate)?;
+    let mut problem = Problem::none();
+    read_problem(problem_text, packages, constraints, &mut problem)?;
+    judge_answer(&problem, answer_text, certificate, table)
 }
 
 /// The line that three files come to, or nothing where a certificate would have to be checked. The memory is then all
@@ -115,13 +96,13 @@ pub fn check(
     constraints: &mut [ConstraintRow],
     table: &mut [Standing],
 ) -> Option<Line>
-    ensures line { result ≡ line_of (judged (record { packages = length packages.old; constraints = length constraints.old; table = length table.old }) problem.now answer.now certificate.now) }
-    ensures means { Means (record { packages = length packages.old; constraints = length constraints.old; table = length table.old }) problem.now answer.now result }
+    ensures line { result ≡ line_of (judged (rooms_of packages.old constraints.old table.old) problem.now answer.now certificate.now) }
+    ensures means { Means (rooms_of packages.old constraints.old table.old) problem.now answer.now result }
     ensures packages { packages.new ≡ replicate (length packages.old) no_package }
     ensures constraints { constraints.new ≡ replicate (length constraints.old) no_constraint }
     ensures table { table.new ≡ replicate (length table.old) Unnamed }
 {
-    let judgement = judge_files(problem, answer, certificate, packages, constraints, table);
+    let judgement = judge(problem, answer, certificate, packages, constraints, table);
     packages.fill(NO_PACKAGE);
     constraints.fill(NO_CONSTRAINT);
     table.fill(Standing::Unnamed);
@@ -133,8 +114,7 @@ fn line_of(judgement: Result<Option<Counts>, VerdictFault>) -> Option<Line>
     ensures { result ≡ line_of judgement }
 {
     match judgement {
-        Ok(Some(counts)) => Some(Line::Plan(counts)),
-        Ok(None) => None,
-        Err(fault) => Some(Line::Refused(fault.refusal())),
+        Ok(counts) => counts.map(Line::Plan),
+        Err(fault) => Some(Line::Refused(fault.into())),
     }
 }

@@ -18,6 +18,7 @@ pub enum VerdictFault {
     NoPlan(NotPlan),
 }
 
+// Written out, as the clauses of the calls name what `?` makes of a fault.
 impl From<ProblemFault> for VerdictFault {
     ghost from_gives = { λ f r. r ≡ Problem f };
 
@@ -42,12 +43,12 @@ impl From<NotPlan> for VerdictFault {
     }
 }
 
-impl VerdictFault {
+impl From<VerdictFault> for Refusal {
+    ghost from_gives = { λ f r. r ≡ refused f };
+
     /// The file, the place and the number of a fault.
-    pub fn refusal(self) -> Refusal
-        ensures { result ≡ refused self }
-    {
-        match self {
+    fn from(fault: VerdictFault) -> Refusal {
+        match fault {
             VerdictFault::TooLong(file) => Refusal {
                 file,
                 place: 0,

@@ -4,6 +4,7 @@
 pub mod case;
 pub mod check;
 mod counter;
+pub mod counts;
 pub mod fault;
 mod indicators;
 pub mod lawful;

@@ -2,8 +2,8 @@
 ghost use Rattle.std.specs.Prelude.{◌≡◌, length};
 ghost use Rattle.certificate.specs.Reading.{memory_of};
 ghost use Rattle.clauses.specs.ClauseBase.{idle};
-ghost use Rattle.verdict.specs.Finding.{Ends, Finds, FindLeaves, FoundTrue, Found};
-ghost use Rattle.verdict.specs.Opened.{HoldsEach, Lays, Opens, OpeningLeaves, Concludes, RunLeaves, TrueVerdict, Complete};
+ghost use Rattle.verdict.specs.Finding.{ending, Finds, FindLeaves, FoundTrue, Found};
+ghost use Rattle.verdict.specs.Opened.{HoldsEach, Lays, Opens, OpeningLeaves, closing, Concludes, RunLeaves, TrueVerdict, Complete};
 ghost use Rattle.verdict.specs.Session.{opening_variables, opening_clauses};
 
 use crate::case::Case;
@@ -41,9 +41,7 @@ pub(crate) fn open<B: ClauseBase, C: Case>(
     ensures memory { OpeningLeaves literals.old result literals.new }
     ensures opens { Opens (B.meaning base.old) (C.problem case.now) (C.answer case.now) result (B.meaning base.new) }
 {
-    if base.clear(0).is_err() {
-        return Err(OpenFault::InTrial);
-    }
+    base.clear(0).map_err(|_| OpenFault::InTrial)?;
     if let Some(n) = case.plan_fault() {
         return Err(OpenFault::NotPlan(n));
     }
@@ -54,6 +52,16 @@ pub(crate) fn open<B: ClauseBase, C: Case>(
         return Err(OpenFault::NoRoom);
     }
     Ok(Open::new(case.claim()))
+}
+
+/// Closes a session and gives its verdict.
+fn close(session: Open) -> Result<Verdict, SessionFault>
+    ensures { result ≡ closing session }
+{
+    match session.close() {
+        Ok(refuted) => Ok(refuted.verdict()),
+        Err(still) => Err(SessionFault::Unclosed(still.place)),
+    }
 }
 
 /// Opens a session, asks as many steps as there is place for replies, closes it and gives its verdict.
@@ -71,27 +79,18 @@ pub(crate) fn run_session<B: ClauseBase, C: Case, S: Source>(
     ensures sound { TrueVerdict (C.problem case.now) (C.answer case.now) result }
     ensures complete { Complete (C.problem case.now) (C.answer case.now) (memory_of literals.old hints.old) (B.meaning base.old) (S.rest source.old) (length replies.old) result }
 {
-    let mut session = match open(base, case, literals) {
-        Ok(session) => session,
-        Err(f) => return Err(SessionFault::Opening(f)),
-    };
+    let mut session = open(base, case, literals)?;
     ask_all(&mut session, base, source, literals, hints, replies);
-    match session.close() {
-        Ok(refuted) => Ok(refuted.verdict()),
-        Err(still) => Err(SessionFault::Unclosed(still.place)),
-    }
+    close(session)
 }
 
 /// What a session comes to after its last reply.
 fn end(session: Open, reply: Reply) -> Result<Verdict, RunFault>
-    ensures { Ends session reply result }
+    ensures { result ≡ ending session reply }
 {
-    if let Reply::Refused(f, p) = reply {
-        return Err(RunFault::Step(f, p));
-    }
-    match session.close() {
-        Ok(refuted) => Ok(refuted.verdict()),
-        Err(still) => Err(RunFault::Unclosed(still.place)),
+    match reply {
+        Reply::Refused(fault, place) => Err(RunFault::Step(fault, place)),
+        Reply::Taken | Reply::Nothing => close(session).map_err(RunFault::Session),
     }
 }
 
@@ -109,10 +108,7 @@ pub(crate) fn conclude<B: ClauseBase, C: Case, S: Source>(
     ensures sound { FoundTrue (C.problem case.now) (C.answer case.now) result }
     ensures complete { Found (C.problem case.now) (C.answer case.now) (memory_of literals.old hints.old) (B.meaning base.old) (S.rest source.old) result }
 {
-    let mut session = match open(base, case, literals) {
-        Ok(session) => session,
-        Err(f) => return Err(RunFault::Opening(f)),
-    };
+    let mut session = open(base, case, literals)?;
     let reply = ask_on(&mut session, base, source, literals, hints);
     end(session, reply)
 }

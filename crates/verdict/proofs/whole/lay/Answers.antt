@@ -1,8 +1,7 @@
-use Rattle.std.proofs.Common.{◌≡◌, ◌<◌, length, Ok, Err, subst, arith}
+use Rattle.std.proofs.Common.{◌<◌, length, arith}
 use Rattle.std.proofs.lemmas.Result.{err_from_is_err_and}
 use Rattle.verdict.specs.Session.{opening_clauses}
-use Rattle.clauses.specs.Calls.{Clears, Adds}
-use Rattle.verdict.proofs.Laying.{Laid, laid_next, lays_ok, lays_fault}
+use Rattle.verdict.proofs.Laying.{laid_next, lays_fault}
 use Rattle.verdict.proofs.Rising.{opening_formed}
 use Rattle.verdict.proofs.whole.lay.Goals as goal
 
@@ -10,34 +9,14 @@ pub returns-in_err-add : goal.returns-in_err-add
 returns-in_err-add g c =
     let q = g.C.Case.problem c.args.case.now in
     let a = g.C.Case.answer c.args.case.now in
-    let m = g.B.ClauseBase.meaning c.args.base.now in
-    let m₁ = g.B.ClauseBase.meaning c.clear.new.self in
-    let mᵢ = g.B.ClauseBase.meaning c.loop-i.base in
-    let m'' = g.B.ClauseBase.meaning c.add.new.self in
-    let f = c.in_err-add.field-0.0 in
+    let m = g.B.ClauseBase.meaning in
     let below : c.loop-i.i < length (opening_clauses q a) = omega arith in
-    let w = lays_fault m q a m₁ mᵢ m'' c.loop-i.i f
-    (subst (λ y. Clears m y (Ok tt) m₁) c.variables.ensures c.in_ok-clear.ensures) below c.loop-i.invariant (opening_formed q a)
-    (subst (λ y. Adds mᵢ y (Err f) m'') c.clause-n.ensures.is c.in_err-add.ensures) in
     let p = err_from_is_err_and c.from_residual-in_err-add.result c.from_residual-in_err-add.ensures.1 in
-    rw p.1 w
+    rw p.1 (lays_fault (m c.args.base.now) q a (m c.clear.new.self) (m c.loop-i.base) (m c.add.new.self) _ c.loop-i.i _ c.in_err-add.field-0.0 c.variables.ensures c.in_ok-clear.ensures below c.loop-i.invariant (opening_formed q a) c.clause-n.ensures.is c.in_err-add.ensures)
 
 pub loop-i-preserved : goal.loop-i-preserved
 loop-i-preserved g c =
-    let q = g.C.Case.problem c.args.case.now in
-    let a = g.C.Case.answer c.args.case.now in
-    let mᵢ = g.B.ClauseBase.meaning c.loop-i.base in
-    let m'' = g.B.ClauseBase.meaning c.add.new.self in
-    let below : c.loop-i.i < length (opening_clauses q a) = omega arith in
-    laid_next (g.B.ClauseBase.meaning c.clear.new.self) (opening_clauses q a) c.loop-i.i mᵢ below c.loop-i.invariant c.in_ok-add.field-0 m''
-    (subst (λ y. Adds mᵢ y (Ok c.in_ok-add.field-0) m'') c.clause-n.ensures.is c.in_ok-add.ensures)
-
-pub returns : goal.returns
-returns g c =
-    let q = g.C.Case.problem c.args.case.now in
-    let a = g.C.Case.answer c.args.case.now in
-    let m = g.B.ClauseBase.meaning c.args.base.now in
-    let m₁ = g.B.ClauseBase.meaning c.clear.new.self in
-    let m' = g.B.ClauseBase.meaning c.loop-i.base in
-    let e : c.loop-i.i ≡ length (opening_clauses q a) = omega arith in
-    lays_ok m q a m₁ m' (subst (λ y. Clears m y (Ok tt) m₁) c.variables.ensures c.in_ok-clear.ensures) (subst (λ y. Laid m₁ (opening_clauses q a) y m') e c.loop-i.invariant)
+    let cs = opening_clauses (g.C.Case.problem c.args.case.now) (g.C.Case.answer c.args.case.now) in
+    let m = g.B.ClauseBase.meaning in
+    let below : c.loop-i.i < length cs = omega arith in
+    laid_next (m c.clear.new.self) cs c.loop-i.i (m c.loop-i.base) below c.loop-i.invariant _ c.in_ok-add.field-0 (m c.add.new.self) c.clause-n.ensures.is c.in_ok-add.ensures
