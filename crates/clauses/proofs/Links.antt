@@ -2,7 +2,7 @@
 use Rattle.std.proofs.Common.{◌≡◌, ℕ, suc, ◌+◌, ◌<◌, ◌≤◌, ◌≢◌, ◌⊎◌, List, length, get_or, set, sym, ap, ◌∙◌, subst, inl, inr, add-one, arith, below_more}
 use Rattle.std.proofs.lemmas.List.{get_or-set_same, get_or-set_other}
 use Rattle.std.proofs.lemmas.Bool.{cases_eq}
-use Rattle.clauses.specs.Linked.{On, here, there, Falling, AllBelow}
+use Rattle.clauses.specs.Links.{On, here, there, Falling, AllBelow}
 
 pub below_push : (xs : List ℕ) (n m v : ℕ) → n < length xs → v < m → AllBelow xs n m → AllBelow (set xs n v) (n + 1) m
 below_push xs n m v lt le h =

@@ -8,7 +8,8 @@ use Rattle.clauses.specs.Cells.{values_of}
 use Rattle.clauses.specs.Rows.{row_at, span}
 use Rattle.clauses.specs.Codes.{code_of, Hit}
 use Rattle.clauses.specs.Counting.{Gap, Tally, hits}
-use Rattle.clauses.specs.Linked.{On, AllBelow, Linked}
+use Rattle.clauses.specs.Links.{On, AllBelow}
+use Rattle.clauses.specs.Linked.{Linked}
 use Rattle.clauses.specs.declared.store.Store.{Store}
 use Rattle.clauses.specs.declared.trail.Trail.{Trail}
 use Rattle.clauses.specs.declared.index.Index.{Index}
