@@ -69,55 +69,35 @@ pub trait Propagator: Drop {
         ensures serves { serves self.new ≡ serves self.old }
         ensures same { Same index.old index.new }
         ensures room { length trail.new.literals.now ≡ length trail.old.literals.now };
-}
 
-/// Goes on from each literal of the trail.
-fn drain<E: Propagator>(
-    engine: &mut E,
-    store: &Store,
-    values: &mut [Option<bool>],
-    index: &mut Index,
-    trail: &mut Trail,
-) -> Result<(), Conflict>
-    requires ready { Ready store.now values.old trail.old }
-    requires serves { store.now.count ≤ E.serves engine.old }
-    requires keeps { E.Keeps store.now index.old engine.old values.old trail.old 0 }
-    requires quiet { Quiet store.now values.old trail.old 0 }
-    ensures decides { Decides (is_err result) (Refuted (held store.now) (values_of values.old)) }
-    ensures serves { E.serves engine.new ≡ E.serves engine.old }
-    ensures same { Same index.old index.new }
-    ensures room { length trail.new.literals.now ≡ length trail.old.literals.now }
-{
-    let mut head = 0;
-    // The trail grows while it is gone through.
-    while head < trail.tail {
-        engine.wake(store, head, values, index, trail)?;
-        head += 1;
+    /// Unit propagation from these values, until it comes to a conflict or to its end.
+    fn propagate(
+        &mut self,
+        store: &Store,
+        values: &mut Values,
+        index: &mut Index,
+        trail: &mut Trail,
+    ) -> Result<(), Conflict>
+        requires ready { Ready store.now values.old.cells.now trail.old }
+        requires serves { store.now.count ≤ serves self.old }
+        requires empty { trail.old.tail ≡ 0 }
+        requires heads { 2 * store.now.variables ≤ length index.old.heads.now - 2 }
+        requires next { store.now.filled ≤ length index.old.next.now }
+        requires owners { store.now.filled ≤ length index.old.owners.now }
+        ensures decides { Decides (is_err result) (Refuted (held store.now) (values_of values.old.cells.now)) }
+        ensures cells { length values.new.cells.now ≡ length values.old.cells.now }
+        ensures serves { serves self.new ≡ serves self.old }
+        ensures same { Same index.old index.new }
+        ensures room { length trail.new.literals.now ≡ length trail.old.literals.now }
+    {
+        let cells = &mut *values.cells;
+        self.start(store, cells, index, trail)?;
+        let mut head = 0;
+        // The trail grows while it is gone through.
+        while head < trail.tail {
+            self.wake(store, head, cells, index, trail)?;
+            head += 1;
+        }
+        Ok(())
     }
-    Ok(())
-}
-
-/// Unit propagation from these values, until it comes to a conflict or to its end.
-pub(crate) fn propagate<E: Propagator>(
-    engine: &mut E,
-    store: &Store,
-    values: &mut Values,
-    index: &mut Index,
-    trail: &mut Trail,
-) -> Result<(), Conflict>
-    requires ready { Ready store.now values.old.cells.now trail.old }
-    requires serves { store.now.count ≤ E.serves engine.old }
-    requires empty { trail.old.tail ≡ 0 }
-    requires heads { 2 * store.now.variables ≤ length index.old.heads.now - 2 }
-    requires next { store.now.filled ≤ length index.old.next.now }
-    requires owners { store.now.filled ≤ length index.old.owners.now }
-    ensures decides { Decides (is_err result) (Refuted (held store.now) (values_of values.old.cells.now)) }
-    ensures cells { length values.new.cells.now ≡ length values.old.cells.now }
-    ensures serves { E.serves engine.new ≡ E.serves engine.old }
-    ensures same { Same index.old index.new }
-    ensures room { length trail.new.literals.now ≡ length trail.old.literals.now }
-{
-    let cells = &mut *values.cells;
-    engine.start(store, cells, index, trail)?;
-    drain(engine, store, cells, index, trail)
 }

@@ -10,7 +10,7 @@ ghost use Rattle.clauses.specs.Stored.{held};
 use crate::common::Common;
 use crate::index::Index;
 use crate::phase::Phase;
-use crate::propagator::{Propagator, propagate};
+use crate::propagator::Propagator;
 
 /// Closes the gaps and propagates. The trial is then answered.
 pub(super) fn answer<E: Propagator>(common: &mut Common, index: &mut Index, engine: &mut E) -> bool
@@ -27,12 +27,7 @@ pub(super) fn answer<E: Propagator>(common: &mut Common, index: &mut Index, engi
     common.store.close();
     common.trail.tail = 0;
     common.phase = Phase::Answered;
-    propagate(
-        engine,
-        &common.store,
-        &mut common.values,
-        index,
-        &mut common.trail,
-    )
-    .is_err()
+    engine
+        .propagate(&common.store, &mut common.values, index, &mut common.trail)
+        .is_err()
 }
