@@ -5,11 +5,7 @@ use Rattle.std.proofs.lemmas.Bool.{lt-ltb, le-ltb, cases_eq}
 use Rattle.text.specs.Pieces.{upto, pieces}
 use Rattle.text.proofs.Cuts.{pieces_whole, pieces_cut, pieces_not_none, upto_le}
 use Rattle.certificate.specs.Lines.{line_step, lines_of}
-use Rattle.certificate.specs.Stream.{Step, finished, on_top, ended, unreadable, or_unreadable, while_places}
-
-pub lines_none : (n : ℕ) (bs : List ℕ) → length bs ≡ 0 → lines_of n (pieces 10 bs) ≡ ended finished
-lines_none n [] e = refl
-lines_none n (b ∷ bs) e = absurd (omega arith)
+use Rattle.certificate.specs.Stream.{Step, on_top, unreadable, or_unreadable, while_places}
 
 pub lines_of_next : (n : ℕ) (l : List ℕ) (ps : List (List ℕ)) → (ps ≡ [] → ⊥) → lines_of n (l ∷ ps) ≡ while_places n (or_unreadable (suc n) (line_step l) (λ t. on_top (record { place = suc n; step = t }) (lines_of (suc n) ps)))
 lines_of_next n l [] h = absurd (h refl)

@@ -14,13 +14,6 @@ pub record SoFar (all rest : List (List ℕ)) (room count : ℕ) (kept : List �
   pub many : count ≡ length zs
   pub first : kept ≡ take room zs
 
-same_mapped : {X : Type 0} (o : Option X) → o ≡ option_map (λ x. x) o
-same_mapped None = refl
-same_mapped (Some x) = refl
-
-pub so_far_none : (all : List (List ℕ)) (room : ℕ) (kept : List ℤ) → kept ≡ [] → SoFar all all room 0 kept
-so_far_none all room kept e = record { zs = []; whole = same_mapped (literals all); many = refl; first = e ∙ sym (take_all room [] (omega arith)) }
-
 literal_next : (z : ℤ) (w : List ℕ) (ws : List (List ℕ)) → Some z ≡ signed 7 w → is_zero z ≡ false → literals (w ∷ ws) ≡ option_map (λ zs. z ∷ zs) (literals ws)
 literal_next z w ws e f = rw (← e, f) refl
 
