@@ -1,12 +1,13 @@
 use Rattle.std.proofs.Common.{ℕ, ◌/◌, ap, ◌∙◌, arith}
 use Rattle.clauses.specs.Watching.{Guards, Watchful}
+use Rattle.clauses.proofs.Entries.{linked_of}
 use Rattle.clauses.proofs.Guarding.{begun_none, begun_more, same_of, watchful_quiet}
 use Rattle.clauses.proofs.watches.PlacesPropagator.start.Goals as goal
 
 pub loop-k-init : goal.loop-k-init
 loop-k-init c =
     let e = c.clear.ensures in
-    let guards : Guards c.args.store.now c.clear.new.self = record { linked = e.linked; heads = omega (arith, c.min.ensures); next = omega arith; owners = omega arith; owned = λ j lt. absurd (omega arith) } in
+    let guards : Guards c.args.store.now c.clear.new.self = record { linked = linked_of c.clear.new.self; heads = omega (arith, c.min.ensures); next = omega arith; owners = omega arith; owned = λ j lt. absurd (omega arith) } in
     begun_none c.args.store.now c.args.index.now c.clear.new.self c.forget.new.places c.args.values.now c.args.trail.now c.requires.ready (same_of _ _ e.heads e.next e.owners) guards e.used c.forget.ensures
 
 pub loop-k-preserved : goal.loop-k-preserved
