@@ -67,7 +67,7 @@ fn judge_set(
 }
 
 /// What the files come to: a plan's counts, or nothing where a certificate would have to be checked.
-// The rows are lent apart: that a call leaves the same memory, as long, a `&mut` slice says by itself.
+// The rows are lent apart: a `&mut` slice says by itself that the memory stays, of the same length.
 fn judge(
     problem_text: &[u8],
     answer_text: &[u8],

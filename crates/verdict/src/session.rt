@@ -56,7 +56,7 @@ impl Open {
     }
 
     /// Asks one step: reads it, and takes it or refuses it.
-    // Literals and hints are lent apart: that a call leaves the same memory, as long, a `&mut` slice says by itself.
+    // Literals and hints are lent apart: a `&mut` slice says by itself that the memory stays, of the same length.
     pub fn ask<B: ClauseBase, S: Source>(
         &mut self,
         base: &mut B,
