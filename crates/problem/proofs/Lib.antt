@@ -1,6 +1,7 @@
 pub mod Again
 pub mod Agreement
 pub mod Checked
+pub mod Closing
 pub mod Concluding
 pub mod Conjuncts
 pub mod Denials
@@ -9,6 +10,7 @@ pub mod Feeds
 pub mod Few
 pub mod Finding
 pub mod Growing
+pub mod Holding
 pub mod Lining
 pub mod Listing
 pub mod Meets
