@@ -3,7 +3,6 @@ ghost use Rattle.std.specs.Prelude.{◌≡◌, ◌&&◌, ◌==◌};
 ghost use Rattle.std.specs.Str.{bytes_eq};
 ghost use Rattle.text.specs.Word.{word_in};
 
-use text::same::same_bytes;
 use text::word::{Word, bytes_of};
 
 /// How a version stands to the version of a constraint.
@@ -53,7 +52,7 @@ impl PackageRow {
     pub fn is_named(&self, text: &[u8], name: &[u8]) -> bool
         ensures { result ≡ bytes_eq name.now (word_in text.now self.now.name) }
     {
-        same_bytes(name, bytes_of(text, self.name))
+        name == bytes_of(text, self.name)
     }
 
     /// Whether the row has this name, in the document, and this version.
