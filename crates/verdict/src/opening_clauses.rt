@@ -7,9 +7,9 @@ ghost use Rattle.verdict.specs.Opening.{variables, removed_clauses, changed_clau
 ghost use Rattle.verdict.specs.OpeningCalls.{Places, second_base, counters_of, at_most, fewer, bounds_of};
 
 use crate::counter::feed_counter;
+use crate::counts::Counts;
 use crate::indicators::feed_indicators;
 use crate::layout::Layout;
-use crate::line::Counts;
 use crate::names::{Indicator, count_listed};
 use problem::plan_clauses::feed_plan_clauses;
 use problem::sink::{ClauseSink, Stopped};
