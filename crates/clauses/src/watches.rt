@@ -22,7 +22,16 @@ fn open_place(clause: &[i32], values: &[Option<bool>], avoid: usize) -> Option<u
     requires { Placed clause.now (length values.now) }
     ensures { Found values.now clause.now avoid result }
 {
-    (0..clause.len()).find(|i| *i != avoid && is_open(values, clause[*i]))
+    // With `find`, a visit took a tenth more instructions.
+    for i in 0..clause.len() {
+        if i == avoid {
+            continue;
+        }
+        if is_open(values, clause[i]) {
+            return Some(i);
+        }
+    }
+    None
 }
 
 /// The old place, if its literal is not false, or else the first such place; but not `avoid`.
