@@ -1,5 +1,5 @@
 //! Reads an answer.
-ghost use Rattle.std.specs.Prelude.{◌≡◌, length};
+ghost use Rattle.std.specs.Prelude.{length};
 ghost use Rattle.problem.specs.AnswerCalls.{Answers};
 ghost use Rattle.problem.specs.Meaning.{problem_of};
 

@@ -1,6 +1,5 @@
 //! Reads the lines of an answer into a table.
-ghost use Rattle.std.specs.Prelude.{◌≡◌, ◌+◌, ◌^◌, ◌<◌, ◌≤◌, ◌&&◌, length, replicate, is_some, IfSome, IfOk, if◌then◌else◌, Some, ◌==◌};
-ghost use Rattle.std.specs.Str.{bytes_eq};
+ghost use Rattle.std.specs.Prelude.{◌≡◌, ◌<◌, ◌≤◌, length, replicate, IfSome, IfOk};
 ghost use Rattle.text.specs.Word.{word_in, Inside};
 ghost use Rattle.problem.specs.AnswerCalls.{draft_in, answering_of, table_after};
 ghost use Rattle.problem.specs.Answers.{begun_by, extended_answer, drafted, stanza_in, settled_at, closed_answer, step_answer, run_answer, nothing_said};

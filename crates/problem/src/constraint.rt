@@ -1,8 +1,5 @@
 //! Reads a constraint.
-ghost use Rattle.std.specs.Prelude.{◌≡◌, ◌<◌, ◌≤◌, length, IfSome, slice_index};
-ghost use Rattle.std.specs.Option.{option_map};
-ghost use Rattle.text.specs.Word.{word_in};
-ghost use Rattle.problem.specs.ConstraintLists.{asked_of};
+ghost use Rattle.std.specs.Prelude.{◌≡◌, ◌≤◌, length, IfSome};
 ghost use Rattle.problem.specs.Placed.{Reads, related_to};
 ghost use Rattle.problem.specs.Words.{name_byte, name_len, is_name, operator as operator_of, version};
 

@@ -2,7 +2,7 @@
 ghost use Rattle.std.specs.Prelude.{◌≡◌, [], length, IfOk, OnErr};
 ghost use Rattle.text.specs.Doc.{doc};
 ghost use Rattle.text.specs.Rows.{items, Same};
-ghost use Rattle.problem.specs.Growth.{Grown, ok_mapped};
+ghost use Rattle.problem.specs.Growth.{ok_mapped};
 ghost use Rattle.problem.specs.Reading.{read_doc};
 ghost use Rattle.problem.specs.Reads.{problem_in, RowsOk, Read};
 ghost use Rattle.problem.specs.Sections.{limits_of};
