@@ -4,7 +4,6 @@ pub mod Checked
 pub mod Closing
 pub mod Concluding
 pub mod Conjuncts
-pub mod Denials
 pub mod Drafting
 pub mod Feeds
 pub mod Few

@@ -1,7 +1,7 @@
 -- The plan clauses of a problem in words, by tests on its rows.
 use Rattle.std.proofs.Common.{◌≡◌, ℕ, suc, ◌+◌, ◌<◌, ◌≤◌, Bool, true, false, cond, List, [], ◌∷◌, ◌++◌, length, get_or, drop, Some, None, Ok, Err, sym, refl, ap, ◌∙◌, subst, arith}
 use Rattle.std.specs.Result.{IsErr}
-use Rattle.std.proofs.lemmas.List.{get_or-map, length-map, length-take-le}
+use Rattle.std.proofs.lemmas.List.{get_or-map, length-map}
 use Rattle.std.proofs.lemmas.Bool.{true≢false, false≢true}
 use Rattle.text.specs.Lists.{each, each_all, keep}
 use Rattle.text.specs.Literals.{Clause, lit}
@@ -116,9 +116,6 @@ module _ (v : View) (text : List ℕ) (ps : List PackageRow) (t : text ≡ v.tex
 
 packages_count : (v : View) (n : ℕ) → n ≡ length (problem_of v).packages → n ≡ length (packages_in v)
 packages_count v n e = e ∙ length-map (packages_in v) _
-
-pub place_within : (v : View) (i n : ℕ) → n ≡ length (problem_of v).packages → i < n → i < v.count
-place_within v i n e l = omega (arith, packages_count v n e, length-take-le v.count v.packages.now v.packages_held)
 
 -- the walk over the stanzas
 module _ {S : Type 0} (goes stops : S → Clause → S → Type 0) (v : View) (whole : List Clause) (start s t : S) (i n : ℕ) (e : n ≡ length (problem_of v).packages) where

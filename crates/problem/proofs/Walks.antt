@@ -1,5 +1,5 @@
--- Whether some member passes a test: the steps of a walk, in what is left of the list.
-use Rattle.std.proofs.Common.{◌≡◌, ℕ, ◌+◌, ◌<◌, ◌≤◌, Bool, true, false, ◌||◌, List, [], ◌∷◌, length, get_or, drop, Option, sym, refl, ap, ◌∙◌}
+-- Whether some member passes a test.
+use Rattle.std.proofs.Common.{◌≡◌, Bool, true, false, ◌||◌, List, [], ◌∷◌, Option, sym, refl, ap, ◌∙◌}
 use Rattle.std.specs.Fn.{Called}
 use Rattle.std.specs.Iterator.{YieldsThen}
 use Rattle.std.specs.List.{list_any, FoldsTo}
@@ -7,18 +7,7 @@ use Rattle.std.specs.Option.{MatchOption}
 use denote.Param.Members.{Mut}
 use Rattle.std.proofs.lemmas.Iterator.{YieldsList}
 use Rattle.std.proofs.lemmas.Iterator.Search.{any_from_yields_List}
-use Rattle.std.proofs.lemmas.List.{at_drop_more, at_drop_all}
 use Rattle.text.specs.Lists.{each, some}
-
-module _ {X : Type 0} (t : X → Bool) (xs : List X) (i : ℕ) (d : X) (l : i < length xs) where
-  pub some_found : t (get_or xs i d) ≡ true → some t (drop i xs) ≡ true
-  some_found e = let f : some t (drop i xs) ≡ (t (get_or xs i d) || some t (drop (i + 1) xs)) = at_drop_more (some t) xs i d l in f ∙ ap (λ b. b || some t (drop (i + 1) xs)) e
-
-  pub some_missed : t (get_or xs i d) ≡ false → some t (drop i xs) ≡ some t (drop (i + 1) xs)
-  some_missed e = let f : some t (drop i xs) ≡ (t (get_or xs i d) || some t (drop (i + 1) xs)) = at_drop_more (some t) xs i d l in f ∙ ap (λ b. b || some t (drop (i + 1) xs)) e
-
-pub some_none : {X : Type 0} (t : X → Bool) (xs : List X) (i : ℕ) → length xs ≤ i → some t (drop i xs) ≡ false
-some_none t xs i l = at_drop_all (some t) xs i l
 
 -- what `any` answers
 some_is_any : {X : Type 0} (t : X → Bool) (xs : List X) → some t xs ≡ list_any t xs

@@ -1,5 +1,5 @@
 -- The clauses of a counter, as they are written.
-use Rattle.std.proofs.Common.{◌≡◌, ℕ, zero, suc, ◌+◌, ◌-◌, ◌*◌, ◌<◌, ◌≤◌, List, [], ◌∷◌, ◌++◌, ℤ, Ok, Err, sym, refl, ap, ◌∙◌, subst, mul-le-mul_right, suc-mul, arith, w32, SFits, to_z, of_z}
+use Rattle.std.proofs.Common.{◌≡◌, ℕ, zero, suc, ◌+◌, ◌-◌, ◌*◌, List, [], ◌∷◌, ◌++◌, ℤ, Ok, Err, sym, refl, ap, ◌∙◌, suc-mul, arith, w32, SFits, to_z, of_z}
 use Rattle.std.specs.Result.{IsErr}
 use Rattle.std.proofs.lemmas.Int.{to_z-of_z}
 use Rattle.text.specs.Lists.{each, each_all, up_from}
@@ -28,21 +28,6 @@ inputs_are base K first i zero = refl
 inputs_are base K first i (suc n) =
     let z : suc (first + i) ≡ first + suc i = omega arith in
     ap (λ ys. counter_input base K (neg (first + i)) (suc i) ++ ys) (ap (λ f. counter base K (suc (suc i)) (up_from f n)) z ∙ inputs_are base K first (suc i) n)
-
--- where an input's registers begin, and those before them
-module _ (base limit place : ℕ) where
-  pub row_fits : (m n : ℕ) → place < n → base + n * limit ≤ m → base + suc place * limit ≤ m
-  row_fits m n l h = omega (arith, mul-le-mul_right {m = suc place} {n = n} limit (omega arith))
-
-  pub row_more : suc place * limit ≡ place * limit + limit
-  row_more = suc-mul place limit
-
-  pub row_holds : (place ≡ 0 → ⊥) → limit ≤ place * limit
-  row_holds h = go place refl
-    where
-      go : (p : ℕ) → p ≡ place → limit ≤ place * limit
-      go zero e = absurd (h (sym e))
-      go (suc p) e = subst (λ q. limit ≤ q * limit) e (omega (arith, suc-mul p limit))
 
 -- a later input's clauses by where its registers begin
 module _ (nx : ℤ) (row before : ℕ) where

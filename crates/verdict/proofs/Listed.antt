@@ -1,9 +1,6 @@
 -- The walk over the names that have an indicator.
-use Rattle.std.proofs.Common.{◌≡◌, ℕ, suc, ◌+◌, ◌<◌, ◌≤◌, Bool, true, false, cond, not, ◌&&◌, List, [], ◌∷◌, length, get_or, take, drop, sym, refl, ap, ◌∙◌, arith}
+use Rattle.std.proofs.Common.{◌≡◌, ℕ, suc, ◌+◌, ◌<◌, Bool, true, false, cond, not, ◌&&◌, List, [], ◌∷◌, length, get_or, take, drop, sym, refl, ap, ◌∙◌}
 use Rattle.std.specs.List.{enumerate_from}
-use Rattle.std.proofs.lemmas.List.{drop_all}
-use Rattle.std.proofs.lemmas.List.FromFn.{length-enumerate_from}
-use Rattle.std.proofs.lemmas.List.Sums.{length-filter, count_by-le-length}
 use Rattle.text.specs.Lists.{each, keep, how_many}
 use Rattle.text.specs.Word.{word_in}
 use Rattle.problem.proofs.Names.{rows_step, is_first, firsts_are}
@@ -37,9 +34,6 @@ module _ (k : Indicator) (text : List ℕ) (ps : List PackageRow) where
     pub listed_same : false ≡ listed_at k text ps i row → listed_from k text ps i ≡ listed_from k text ps (i + 1)
     listed_same e = step false e
 
-  pub listed_none : (i : ℕ) → length ps ≤ i → listed_from k text ps i ≡ []
-  listed_none i m = ap (λ xs. keep (listed k text ps) (row_names text (each (λ p. word_in text p.name) (take i ps)) xs)) (drop_all i ps m)
-
   pub listed_count : length (keep (is_first text (listed k text ps) ps) (enumerate_from 0 ps)) ≡ length (listed_from k text ps 0)
   listed_count = firsts_are text (listed k text ps) ps ∙ kept (row_names text [] ps)
     where
@@ -50,6 +44,3 @@ module _ (k : Indicator) (text : List ℕ) (ps : List PackageRow) where
           pick : (b : Bool) → cond b (suc (length (keep (listed k text ps) ns))) (length (keep (listed k text ps) ns)) ≡ length (cond b (n ∷ keep (listed k text ps) ns) (keep (listed k text ps) ns))
           pick true = refl
           pick false = refl
-
-  pub listed_few : length (keep (is_first text (listed k text ps) ps) (enumerate_from 0 ps)) ≤ length ps
-  listed_few = let t = is_first text (listed k text ps) ps in omega (arith, length-filter t (enumerate_from 0 ps), count_by-le-length t (enumerate_from 0 ps), length-enumerate_from 0 ps)

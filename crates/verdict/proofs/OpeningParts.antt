@@ -1,5 +1,5 @@
 -- The opening by its layout.
-use Rattle.std.proofs.Common.{◌≡◌, ℕ, zero, suc, ◌+◌, ◌-◌, ◌*◌, ◌≤◌, List, [], ◌∷◌, ◌++◌, length, ℤ, sym, refl, ap, ◌∙◌, mul-le-mul, arith}
+use Rattle.std.proofs.Common.{◌≡◌, ℕ, zero, suc, ◌+◌, ◌-◌, ◌*◌, List, [], ◌∷◌, ◌++◌, length, ℤ, sym, refl, ap, ◌∙◌, arith}
 use Rattle.text.specs.Lists.{up_from}
 use Rattle.text.specs.Literals.{Clause, lit, neg}
 use Rattle.problem.specs.Cudf.{Problem, names, installed_names}
@@ -11,9 +11,6 @@ use Rattle.verdict.proofs.Worded.{removed-clauses-are, changed-clauses-are}
 use Rattle.verdict.specs.Opening.{counter, variables, choice, first_removed, first_changed, first_s, first_t, inputs, all_names, removed_clauses, changed_clauses, at_most_r, fewer_r, fewer_c, opening}
 use Rattle.verdict.specs.OpeningCalls.{Places, second_base, counters_of, bounds_of, at_most, fewer}
 use Rattle.verdict.specs.declared.layout.Layout.{Layout}
-
-pub product_few : (a b : ℕ) → a ≤ 256 → b ≤ 257 → a * b ≤ 65792
-product_few a b e f = mul-le-mul e f
 
 pub choice_is : (q : Problem) (l : Layout) → Places q l → (r c : ℕ) → l.choice ≡ choice q r c
 choice_is q l p r c = omega (arith, p.removed, p.installed, p.names, l.then_changed, l.then_choice)

@@ -18,16 +18,6 @@ use problem::view::PACKAGES_MOST;
 use text::rows::Rows;
 use text::word::bytes_of;
 
-/// The variable of the version at a place.
-fn version_at(place: usize) -> Variable
-    requires { place < 256 }
-    ensures { result.number ≡ suc place }
-{
-    Variable {
-        number: place as u32 + 1,
-    }
-}
-
 /// That a name is changed if its version at a place does not stand as it did.
 fn feed_change<S: ClauseSink>(
     installed: bool,
@@ -38,7 +28,9 @@ fn feed_change<S: ClauseSink>(
     requires { place < 256 }
     ensures { Fed S.goes S.stops (((if installed then lit (suc place) else neg (suc place)) ∷ lit changed.number ∷ []) ∷ []) result sink.old sink.new }
 {
-    let version = version_at(place);
+    let version = Variable {
+        number: place as u32 + 1,
+    };
     if installed {
         sink.take(&[version.yes(), changed.yes()])
     } else {
@@ -81,7 +73,10 @@ fn write_versions(stanzas: &Stanzas<'_>, name: &[u8], clause: &mut Rows<'_, i32>
 {
     for (i, row) in stanzas.rows.iter().enumerate() {
         if row.is_named(stanzas.text, name) {
-            write_variable(clause, version_at(i));
+            let version = Variable {
+                number: i as u32 + 1,
+            };
+            write_variable(clause, version);
         }
     }
 }
@@ -129,6 +124,7 @@ pub(crate) fn feed_indicators<S: ClauseSink>(
     requires small { first ≤ 10000 }
     ensures { Fed S.goes S.stops (of_names indicator stanzas.now.text.now stanzas.now.rows.now first (listed_from indicator stanzas.now.text.now stanzas.now.rows.now 0)) result sink.old sink.new }
 {
+    // Tried: a loop over the filtered rows, which the check refuses in a function with a type parameter.
     let mut number = first;
     for (place, row) in stanzas.rows.iter().enumerate() {
         if is_listed(stanzas, indicator, place, row) {

@@ -8,6 +8,7 @@ use text::word::bytes_of;
 
 /// What a variable says of a name: that none of its versions is left, of those installed at the start; that other
 /// versions are, of all.
+// One value and not two closures, since it decides both which names have a variable and which clauses they get.
 #[derive(Clone, Copy)]
 pub(crate) enum Indicator {
     Removed,

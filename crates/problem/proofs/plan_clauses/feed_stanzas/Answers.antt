@@ -1,8 +1,5 @@
-use Rattle.problem.proofs.Meets.{place_within, stanzas_more, stanzas_stop, stanzas_all}
+use Rattle.problem.proofs.Meets.{stanzas_more, stanzas_stop, stanzas_all}
 use Rattle.problem.proofs.plan_clauses.feed_stanzas.Goals as goal
-
-pub feed_stanza-requires : goal.feed_stanza-requires
-feed_stanza-requires g c = place_within c.args.problem.now c.loop-place.place _ c.len-count.ensures c.loop-place-test.true
 
 pub returns-in_err-feed_stanza : goal.returns-in_err-feed_stanza
 returns-in_err-feed_stanza g c =

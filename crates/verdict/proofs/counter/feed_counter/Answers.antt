@@ -1,16 +1,10 @@
 use Rattle.std.proofs.Common.{◌≡◌, ◌+◌, arith}
-use Rattle.verdict.proofs.Counting.{row_fits, inputs_left}
+use Rattle.verdict.proofs.Counting.{inputs_left}
 use Rattle.verdict.proofs.VariableRanges.{range_fed, range_left}
 use Rattle.verdict.proofs.counter.feed_counter.Goals as goal
 
 pub loop-place-init : goal.loop-place-init
 loop-place-init g c = inputs_left _ _ c.args.base c.args.limit c.args.first c.args.inputs _
-
-pub feed_input-requires : goal.feed_input-requires
-feed_input-requires g c = record {
-  base = c.requires.base;
-  few = row_fits c.args.base c.args.limit c.loop-place.place 1000000 c.args.inputs c.loop-place-test.true c.requires.few;
-}
 
 pub returns-in_err-feed_input : goal.returns-in_err-feed_input
 returns-in_err-feed_input g c =

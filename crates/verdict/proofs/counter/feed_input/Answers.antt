@@ -1,22 +1,7 @@
-use Rattle.std.proofs.Common.{◌+◌, ◌*◌, arith, w32, SFits, rules}
+use Rattle.std.proofs.Common.{◌+◌, ◌*◌, w32, SFits, rules}
 use Rattle.text.specs.Literals.{lit, neg}
-use Rattle.verdict.proofs.Counting.{row_more, row_holds, two_held, fed_input, fed_keeping}
+use Rattle.verdict.proofs.Counting.{two_held, fed_input, fed_keeping}
 use Rattle.verdict.proofs.counter.feed_input.Goals as goal
-
-pub overflow_sub-before : goal.overflow_sub-before
-overflow_sub-before g c = omega (arith, row_holds c.args.base c.args.limit c.args.place c.if-place-eq0.false)
-
-pub feed_kept-requires : goal.feed_kept-requires
-feed_kept-requires g c =
-    let h = row_holds c.args.base c.args.limit c.args.place c.if-place-eq0.false in
-    let m = row_more c.args.base c.args.limit c.args.place in
-    record { before = omega (arith, h, m); order = omega (arith, h, m); few = omega (arith, h, m) }
-
-pub feed_raised-requires : goal.feed_raised-requires
-feed_raised-requires g c =
-    let h = row_holds c.args.base c.args.limit c.args.place c.if-place-eq0.false in
-    let m = row_more c.args.base c.args.limit c.args.place in
-    record { before = omega (arith, h, m); order = omega (arith, h, m); few = omega (arith, h, m) }
 
 pub returns-in_err-feed_kept : goal.returns-in_err-feed_kept
 returns-in_err-feed_kept g c =

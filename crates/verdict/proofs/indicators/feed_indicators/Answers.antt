@@ -1,5 +1,5 @@
 use Rattle.std.proofs.Common.{arith}
-use Rattle.verdict.proofs.Changing.{names_stop, names_more, names_same, names_all}
+use Rattle.verdict.proofs.Changing.{names_stop, names_more, names_same}
 use Rattle.verdict.proofs.indicators.feed_indicators.Goals as goal
 use Rattle.verdict.proofs.indicators.feed_indicators.Goals.{then-is_listed+in_ok-feed_indicator, else-is_listed}
 
@@ -24,6 +24,3 @@ loop-place-preserved g c =
         omega (arith, w.number-is),
       )
     ]
-
-pub returns : goal.returns
-returns g c = names_all _ _ c.args.indicator c.args.stanzas.now.text.now c.args.stanzas.now.rows.now c.loop-place.number c.loop-place.place _ _ _ c.loop-place.invariant.0 c.loop-place-test.false

@@ -1,6 +1,5 @@
-use Rattle.std.proofs.Common.{◌+◌, [], ◌∷◌, ◌++◌, length, sym, ap, ◌∙◌, w32, rules, arith}
+use Rattle.std.proofs.Common.{◌+◌, [], ◌∷◌, ◌++◌, sym, ap, ◌∙◌, w32, rules}
 use Rattle.std.proofs.lemmas.Int.{to_z-of_z}
-use Rattle.std.proofs.lemmas.List.{length-take, length-drop, length_push}
 use Rattle.text.specs.Lists.{each}
 use Rattle.text.specs.Literals.{lit, neg}
 use Rattle.text.specs.Rows.{items}
@@ -12,22 +11,6 @@ use Rattle.problem.proofs.plan_clauses.conjuncts.feed_conjunct.Goals as goal
 
 pub returns-then-satisfies_one : goal.returns-then-satisfies_one
 returns-then-satisfies_one g c = fed_none _ _ _ _ (needs-none _ c.args.stanzas.now.rows.now c.args.place no_package c.requires (sym c.if-satisfies_one.ensures))
-
-pub write_met-requires-2 : goal.write_met-requires-2
-write_met-requires-2 g c =
-    let ps = c.args.stanzas.now.rows.now in
-    record {
-      few = omega (arith, ap length c.around.ensures.after, length-drop (c.args.place + 1) ps);
-      fits = omega (
-        arith,
-        ap length c.around.ensures.after,
-        length-drop (c.args.place + 1) ps,
-        ap length c.around.ensures.before,
-        length-take c.args.place ps,
-        ap length c.new-clause.ensures.items,
-        ap length c.put.ensures.items ∙ length_push _ _,
-      );
-    }
 
 pub returns : goal.returns
 returns g c =

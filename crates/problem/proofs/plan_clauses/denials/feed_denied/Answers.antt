@@ -1,5 +1,5 @@
 use Rattle.problem.specs.Rows.{no_constraint}
-use Rattle.problem.proofs.Feeds.{walk_more, walk_stop, walk_all}
+use Rattle.problem.proofs.Feeds.{walk_more, walk_stop}
 use Rattle.problem.proofs.plan_clauses.denials.feed_denied.Goals as goal
 
 pub returns-in_err-feed_denials : goal.returns-in_err-feed_denials
@@ -10,6 +10,3 @@ returns-in_err-feed_denials g c =
 pub loop-constraint-preserved : goal.loop-constraint-preserved
 loop-constraint-preserved g c =
     walk_more _ _ _ _ _ _ _ c.args.constraints.now c.loop-constraint.constraint-index no_constraint c.loop-constraint-test.true c.loop-constraint.invariant c.in_ok-feed_denials.ensures
-
-pub returns : goal.returns
-returns g c = walk_all _ _ _ _ _ _ c.args.constraints.now c.loop-constraint.constraint-index c.loop-constraint-test.false c.loop-constraint.invariant
