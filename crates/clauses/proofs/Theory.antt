@@ -6,12 +6,6 @@ use Rattle.clauses.specs.Propagation.{Values, flip, value, is_unset, is_false, i
 use Rattle.text.proofs.Members.{and_left, and_right}
 use Rattle.clauses.specs.Propagation.{Held, HeldAt, Unit', Chain, Refuted, Settled, Below, Reached}
 
--- a literal's value is one of three
-pub by_value : {P : Type 0} (o : Option Bool) → (o ≡ None → P) → (o ≡ Some true → P) → (o ≡ Some false → P) → P
-by_value None n t f = n refl
-by_value (Some true) n t f = t refl
-by_value (Some false) n t f = f refl
-
 false_is : (o : Option Bool) → T (is_false o) → o ≡ Some false
 false_is None h = absurd h
 false_is (Some true) h = absurd h
@@ -205,7 +199,3 @@ onward live f (n ∷ k ∷ ns) h g up = go h.0 h.1 h.2.0 h.2.1 (value g h.1) ref
     go c l at u (Some false) e more =
         let false' : T (all_false g c) = rw u.parts (all_false_parts g u.before l u.after (all_false_below f g up u.before u.before_false) e (all_false_below f g up u.after u.after_false)) in
         (n ∷ [], (c, (at, false')))
-
--- so a step changes nothing in what is refuted
-pub refuted_on : (live : List Held) (f g : Values) → Reached live f g → Refuted live f → Refuted live g
-refuted_on live f g p r = onward live f r.0 r.1 g p.below

@@ -17,6 +17,7 @@ pub struct Counters<'a> {
 pub type Counting<'a> = Base<'a, Counters<'a>>;
 
 impl<'a> Base<'a, Counters<'a>> {
+    // `Watched::new` is alike, but for the kind of scratch memory, which names the base.
     /// An empty base, with what room the memory allows: a row and a counter for each clause;
     /// a literal, a link and an owner for each literal of a clause; a value and a place on the trail for
     /// each variable and one more, and two heads.

@@ -4,7 +4,7 @@ ghost use Rattle.clauses.specs.Links.{Falling, Upto};
 
 /// An entry for each place of a literal. A link is an entry's number and one, or 0 at a list's end.
 /// The first `lists` heads are in use, and the first `used` entries.
-// The memory is lent as plain numbers, so an entry's link and owner lie in two slices.
+// Callers lend the memory as slices of `u32`, so links are numbers, 0 is none, and an entry's link and owner lie in two slices.
 #[derive(Drop)]
 pub struct Index<'a> {
     pub heads: &'a mut [u32],

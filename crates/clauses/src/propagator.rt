@@ -15,7 +15,9 @@ use crate::look::Conflict;
 use crate::store::Store;
 use crate::trail::Trail;
 
-/// Scratch memory, and how it finds the clauses to look at.
+/// Scratch memory, and how the clauses to look at are found by it.
+// Store, values, index and trail stay four parameters: of a struct of them each contract would have to say that its parts
+// are the same memory, as long as before, and the store is read while the others are written.
 pub trait Propagator: Drop {
     /// For how many rows the memory serves.
     ghost serves: { Self → ℕ };

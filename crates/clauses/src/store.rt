@@ -10,7 +10,8 @@ mod close;
 mod find;
 
 /// The first `count` rows, over the first `filled` literals.
-// The memory is lent, so how much of it is in use stands beside it.
+// The memory is lent, so how much of it is in use stands beside it. No `Rows`: gaps are closed by moving down what lies
+// past the new end, where `Rows` would have zeros.
 #[derive(Drop)]
 pub struct Store<'a> {
     pub rows: &'a mut [Row],

@@ -2,6 +2,7 @@
 ghost use Rattle.std.specs.Prelude.{◌≡◌, ◌+◌, ◌<◌, length, slice_set};
 
 /// The first `tail` literals, in the order in which they were made true.
+// No `Rows`, which would make the places zero again after each run.
 #[derive(Drop)]
 pub struct Trail<'a> {
     pub literals: &'a mut [i32],

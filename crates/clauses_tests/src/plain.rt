@@ -88,16 +88,8 @@ impl Plain {
         }
     }
 
-    fn check_idle(&self) -> Result<(), BaseFault> {
-        if self.stage == Stage::Idle {
-            Ok(())
-        } else {
-            Err(BaseFault::InTrial)
-        }
-    }
-
-    fn check_open(&self) -> Result<(), BaseFault> {
-        if self.stage == Stage::Open {
+    fn check_stage(&self, stage: Stage) -> Result<(), BaseFault> {
+        if self.stage == stage {
             Ok(())
         } else {
             Err(BaseFault::InTrial)
@@ -106,7 +98,7 @@ impl Plain {
 
     /// Whether a clause may be added, and under which number.
     fn check_clause(&self, clause: &[i32]) -> Result<u32, BaseFault> {
-        self.check_idle()?;
+        self.check_stage(Stage::Idle)?;
         if is_bad(clause, self.variables) {
             return Err(BaseFault::Malformed);
         }
@@ -148,7 +140,7 @@ impl Plain {
 
 impl Calls for Plain {
     fn clear(&mut self, variables: u32) -> Result<(), BaseFault> {
-        self.check_idle()?;
+        self.check_stage(Stage::Idle)?;
         if variables > VARIABLES {
             return Err(BaseFault::NoRoom);
         }
@@ -171,7 +163,7 @@ impl Calls for Plain {
     }
 
     fn delete(&mut self, number: u32) -> Result<(), BaseFault> {
-        self.check_idle()?;
+        self.check_stage(Stage::Idle)?;
         match self.clauses.remove(&number) {
             Some(_) => Ok(()),
             None => Err(BaseFault::NotLive),
@@ -179,7 +171,7 @@ impl Calls for Plain {
     }
 
     fn hint(&mut self, number: u32) -> Result<Hinted, BaseFault> {
-        self.check_open()?;
+        self.check_stage(Stage::Open)?;
         let said = match self.clauses.get(&number) {
             Some(clause) => say(&self.values, clause),
             None => return Err(BaseFault::NotLive),
@@ -198,7 +190,7 @@ impl Calls for Plain {
     }
 
     fn run(&mut self) -> Result<bool, BaseFault> {
-        self.check_open()?;
+        self.check_stage(Stage::Open)?;
         self.stage = Stage::Answered;
         Ok(self.propagate())
     }

@@ -18,11 +18,10 @@ const VERSION_MOST: u32 = 999_999;
 fn is_name_byte(b: u8) -> bool
     ensures { result ≡ name_byte b }
 {
-    match b {
-        b'a'..=b'z' | b'A'..=b'Z' | b'0'..=b'9' => true,
-        b'+' | b'.' | b'/' | b'@' | b'(' | b')' | b'%' | b'-' => true,
-        _ => false,
-    }
+    matches!(
+        b,
+        b'a'..=b'z' | b'A'..=b'Z' | b'0'..=b'9' | b'+' | b'.' | b'/' | b'@' | b'(' | b')' | b'%' | b'-'
+    )
 }
 
 /// How many bytes at the front may stand in a name.

@@ -82,7 +82,7 @@ impl AnswerFault {
     }
 }
 
-// Each `from` is written out, since its `from_gives` is what a contract knows of a fault that `?` passed on.
+// Each `from` is written by hand, since contracts say by its `from_gives` which fault `?` makes.
 impl From<TextFault> for ProblemFault {
     ghost from_gives = { λ f r. r ≡ Text f };
 

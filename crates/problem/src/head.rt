@@ -13,6 +13,8 @@ use crate::keys::read_truth;
 use crate::property_line::PropertyLine;
 use text::word::Word;
 
+// That the name lies in the document stands in the contracts (`HeadOk`): a head is numbers alone, as the row that it
+// becomes.
 /// What is known of a stanza so far.
 #[derive(Clone, Copy)]
 pub(crate) struct Head {

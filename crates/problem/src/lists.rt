@@ -75,6 +75,9 @@ fn settle(
     }
 }
 
+// The limit is named at each push. If the rows were lent no more places than it allows, the rest of the lent memory would
+// have to be made zero apart.
+
 /// Reads a list of constraints after the rows, unless its stanza has one already.
 pub(crate) fn read_list(
     line: &PropertyLine<'_>,

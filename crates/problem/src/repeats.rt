@@ -18,7 +18,7 @@ fn is_among(text: &[u8], x: &PackageRow, rows: &[PackageRow]) -> bool
 pub(crate) fn first_repeat(text: &[u8], rows: &[PackageRow]) -> Option<usize>
     ensures { result ≡ repeated_in text.now [] rows.now }
 {
-    // A loop: the closure of a chain would not know that `i` is within the rows.
+    // A loop: the closure of a chain would not know that `i` is within the rows, of which it takes those before.
     for (i, row) in rows.iter().enumerate() {
         if is_among(text, row, &rows[0..i]) {
             return Some(row.line);

@@ -18,7 +18,7 @@ pub enum VerdictFault {
     NoPlan(NotPlan),
 }
 
-// Written out, as the clauses of the calls name what `?` makes of a fault.
+// Each `from` is written by hand, since contracts say by its `from_gives` which fault `?` makes.
 impl From<ProblemFault> for VerdictFault {
     ghost from_gives = { λ f r. r ≡ Problem f };
 

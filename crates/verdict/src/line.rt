@@ -26,7 +26,7 @@ pub struct Refusal {
 }
 
 /// What a run comes to.
-// No `Result`: the verdicts of sessions are to become lines too.
+// No `Result`: a refusal is a line as good as a plan, and no call fails by it.
 #[derive(Clone, Copy, PartialEq, Eq, Debug)]
 pub enum Line {
     Plan(Counts),
@@ -35,7 +35,7 @@ pub enum Line {
 
 /// Writes the bytes of a line first into memory, zeros after them, and says how many there are. Where it is too short
 /// for them, it is all zero.
-// No `Display`: of a formatting that fails it says nothing, and here a failure means that memory is too short.
+// No `Display`: nothing is promised of a `write!` that fails, and here a failure must mean that memory is too short.
 pub fn write_line(line: Line, memory: &mut [u8]) -> Result<usize, Full>
     ensures { Writes (line_bytes line) (length memory.old) result memory.new }
 {

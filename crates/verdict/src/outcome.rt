@@ -8,6 +8,7 @@ use crate::counts::Counts;
 use crate::reply::StepFault;
 
 /// The verdict on a `Claim`.
+// No `Option`: that there is no plan is a verdict too.
 #[derive(Clone, Copy, PartialEq, Eq, Debug)]
 pub enum Verdict {
     /// The plan has these counts, and no plan beats them.
@@ -41,7 +42,7 @@ pub enum RunFault {
     Step(StepFault, u32),
 }
 
-// Written out, as the clauses of the calls name what `?` makes of a fault.
+// Each `from` is written by hand, since contracts say by its `from_gives` which fault `?` makes.
 impl From<OpenFault> for SessionFault {
     ghost from_gives = { λ f r. r ≡ Opening f };
 

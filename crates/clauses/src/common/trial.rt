@@ -53,7 +53,8 @@ fn judge(store: &Store, cells: &mut [Option<bool>], k: usize) -> Hinted
     }
 }
 
-// `hint` lends the store beside the values, and a slice behind a reference can only be lent on from a parameter.
+// Tried: `judge` called by `hint` itself. `self.values.cells` lies two steps behind a reference, and no proof is made where
+// it is lent beside another field.
 fn follow(store: &Store, values: &mut Values, k: usize) -> Hinted
     requires k { k < store.now.count }
     requires placed { store.now.variables ≤ length values.old.cells.now - 1 }

@@ -31,6 +31,7 @@ impl Store<'_> {
         }
     }
 
+    // A `bool`: it answers a question, and what to refuse is for the caller to say.
     /// Whether one more clause of so many literals has room. Gaps are closed only where they are needed.
     pub(crate) fn make_room(&mut self, len: usize) -> bool
         ensures { Spacious self.old self.new len result }

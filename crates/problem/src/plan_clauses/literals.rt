@@ -10,6 +10,7 @@ use crate::stanzas::Stanzas;
 use crate::variable::Variable;
 use text::rows::Rows;
 
+// A place is bounded by its stanzas alone, so the bound stands in the contracts.
 /// The variable of the package at a place.
 pub(super) fn variable_at(place: usize) -> Variable
     requires { place < 256 }
