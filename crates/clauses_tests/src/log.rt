@@ -57,6 +57,8 @@ impl Log {
         }
     }
 
+    // Answers that are no numbers go into the trace as numbers past 1000.
+
     /// What a call answers that gives a number.
     pub fn numbered(&mut self, answer: Result<u32, BaseFault>) {
         match answer {

@@ -123,6 +123,8 @@ fn close(
     note(head.line, head.installed.unwrap_or(false), place, table)
 }
 
+// Apart from the lines of a problem: an answer has no request and no lists, and its state is smaller.
+
 /// Reads one line.
 fn read_line(
     text: &[u8],

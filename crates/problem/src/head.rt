@@ -34,6 +34,8 @@ fn once<T: Copy>(number: usize, already: Option<T>, read: Option<T>) -> Result<T
     }
 }
 
+// A bool says that the rows are full: the rows are lent to what reads the lists, and a bad name comes before lack of room.
+
 /// Begins a stanza at its first line; `full` says that there is no place for one more.
 pub(crate) fn begin(line: &PropertyLine<'_>, full: bool) -> Result<Head, ProblemFault>
     ensures head { ok_mapped (head_of line.now.text.now) result ≡ begun line.now.number full (said line.now).1 }

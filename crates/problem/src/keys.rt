@@ -2,6 +2,8 @@
 ghost use Rattle.std.specs.Prelude.{◌≡◌};
 ghost use Rattle.problem.specs.Keys.{first_key, package_key, request_key, answer_key, truth};
 
+// Four enums and not one, since what may stand on a line is told by its type; so each has a table of words.
+
 /// What may stand on the first line of a stanza.
 #[derive(Clone, Copy)]
 pub(crate) enum FirstKey {

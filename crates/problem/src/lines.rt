@@ -23,6 +23,8 @@ use text::lines::Lines;
 use text::rows::Rows;
 use text::word::Word;
 
+// `Same` and `Grown` stand in each contract, since a `&mut` to rows could leave other memory in them.
+
 /// Reads one line.
 fn read_line(
     text: &[u8],

@@ -8,6 +8,8 @@ ghost use Rattle.verdict.specs.Opening.{counter_input, counter};
 use problem::sink::{ClauseSink, Stopped};
 use problem::variable::Variable;
 
+// A register is a number, good only beside the base and the limit of its counter, so their bounds stand in the contracts.
+
 /// That the registers of an input are no lower than those of the input before.
 fn feed_kept<S: ClauseSink>(before: u32, row: u32, limit: u32, sink: &mut S) -> Result<(), Stopped>
     requires before { 1 ≤ before }

@@ -64,6 +64,9 @@ fn write_variable(clause: &mut Rows<'_, i32>, variable: Variable)
     let _ = clause.push(variable.yes());
 }
 
+// `write_met` of problem does the same by another test. One function for both would take the test, and its contract would
+// say of it what these two say.
+
 /// Puts the versions of a name at the end of a clause.
 fn write_versions(stanzas: &Stanzas<'_>, name: &[u8], clause: &mut Rows<'_, i32>)
     requires { length (items clause.old) + length stanzas.now.rows.now ≤ room clause.old }

@@ -60,6 +60,7 @@ impl From<OpenFault> for RunFault {
 }
 
 impl OpenFault {
+    // The number that is printed: a part of the line, and no other form of the fault.
     /// The number of the refusal.
     pub fn number(self) -> u32
         ensures { result ≡ open_number self }

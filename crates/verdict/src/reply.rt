@@ -5,6 +5,7 @@ ghost use Rattle.verdict.specs.Numbers.{step_number, of_base};
 use clauses::fault::BaseFault;
 
 /// Why a step is refused.
+// A base refuses for fewer reasons: `BaseFault` is a type of its own, and `From` says which is which.
 #[derive(Clone, Copy, PartialEq, Eq, Debug)]
 pub enum StepFault {
     /// It cannot be read.
@@ -23,6 +24,7 @@ pub enum StepFault {
     InTrial,
 }
 
+// No `Result`: a step that is refused is a reply like the others, and so is that none is left.
 #[derive(Clone, Copy, PartialEq, Eq, Debug)]
 pub enum Reply {
     Taken,
@@ -33,6 +35,7 @@ pub enum Reply {
 }
 
 impl StepFault {
+    // The number that is printed: a part of the line, and no other form of the fault.
     /// The number of the refusal.
     pub fn number(self) -> u32
         ensures { result ≡ step_number self }
