@@ -1,42 +1,32 @@
-//! Runs a table of cases from standard input, and prints the line of each.
+//! Runs a table of cases from standard input on both bases, and prints the line of each.
 #![tactic(auto)]
 
 use anyhow::anyhow;
-use problem::rows::{NO_CONSTRAINT, NO_PACKAGE};
-use problem::standing::Standing;
-use problem::view::{CONSTRAINTS_MOST, PACKAGES_MOST};
+use bases::{check_on_counting, check_on_watched};
 use std::io::{Read, Write};
 use table::{Case, read_case};
-use verdict::check::check;
 use verdict::line::write_line;
 
+mod bases;
 mod table;
 
 /// Room for the longest line.
 const LINE_MOST: usize = 64;
 
-/// Prints the line of a case.
+/// Prints the line of a case, on which both bases have to agree.
 fn run_case(rt: &HostRuntime, case: &Case<'_>) -> anyhow::Result<()> {
-    let heap = rt.alloc();
-    let mut packages = vec![in heap; NO_PACKAGE; PACKAGES_MOST]?;
-    let mut constraints = vec![in heap; NO_CONSTRAINT; CONSTRAINTS_MOST]?;
-    let mut table = vec![in heap; Standing::Unnamed; PACKAGES_MOST]?;
-    let line = check(
-        case.problem,
-        case.answer,
-        case.certificate,
-        &mut packages,
-        &mut constraints,
-        &mut table,
-    );
-    let Some(line) = line else {
-        return Err(anyhow!("the case has a certificate"));
-    };
-    let mut memory = [0; LINE_MOST];
-    let Ok(n) = write_line(line, &mut memory) else {
+    let mut watched = [0; LINE_MOST];
+    let mut counting = [0; LINE_MOST];
+    let Ok(n) = write_line(check_on_watched(rt, case)?, &mut watched) else {
         return Err(anyhow!("the line is too long"));
     };
-    let Some(bytes) = memory.get(0..n) else {
+    let Ok(_) = write_line(check_on_counting(rt, case)?, &mut counting) else {
+        return Err(anyhow!("the line is too long"));
+    };
+    if watched != counting {
+        return Err(anyhow!("the two bases disagree"));
+    }
+    let Some(bytes) = watched.get(0..n) else {
         return Err(anyhow!("the line is too long"));
     };
     rt.stdout().write_all(bytes)?;

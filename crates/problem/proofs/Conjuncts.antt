@@ -4,7 +4,8 @@ use Rattle.std.proofs.lemmas.List.{at_drop_more, at_drop_all, drop-drop, drop_al
 use Rattle.text.specs.Literals.{Clause}
 use Rattle.text.specs.Lists.{each_all}
 use Rattle.problem.specs.Feeding.{Fed, Left}
-use Rattle.problem.specs.Meaning.{front, conjuncts}
+use Rattle.text.specs.Pieces.{front}
+use Rattle.problem.specs.Meaning.{conjuncts}
 use Rattle.problem.specs.Stanzas.{conjunct_len}
 use Rattle.problem.specs.declared.rows.ConstraintRow.{ConstraintRow}
 use Rattle.problem.proofs.Feeds.{left_more, left_stop, left_all}

@@ -3,14 +3,14 @@ use Rattle.std.proofs.Common.{◌≡◌, ℕ, suc, ◌+◌, ◌-◌, ◌<◌, �
 use Rattle.std.proofs.lemmas.List.{append_assoc, append-nil, length_push, length-append, length-map, length-drop, drop-map, drop_at, take_rest}
 use Rattle.std.proofs.lemmas.Bool.{lt-ltb, le-ltb, le-leb, lt-leb, cases_lt}
 use Rattle.text.specs.Lists.{each, each_all, Each}
-use Rattle.text.specs.Pieces.{pieces}
+use Rattle.text.specs.Pieces.{front, pieces}
 use Rattle.text.specs.Rows.{items}
 use Rattle.text.specs.declared.rows.Rows.{Rows}
 use Rattle.text.proofs.Cuts.{pieces_some}
 use Rattle.problem.specs.Cudf.{Constraint}
 use Rattle.problem.specs.ConstraintLists.{Asked, Kept, asked_of, kept, limit_of, put, is_nil, stored, stored_all, Stores, then, all_of, constraint_list, conjunct_list, listed, conjoined, total}
 use Rattle.problem.specs.Growth.{ok_mapped, list_at, conjuncts_at, settled, SpanOf, Grown}
-use Rattle.problem.specs.Meaning.{constraint_of, list_of, conjuncts_of, conjuncts, front}
+use Rattle.problem.specs.Meaning.{constraint_of, list_of, conjuncts_of, conjuncts}
 use Rattle.problem.specs.Words.{constraint}
 use Rattle.problem.specs.declared.rows.ConstraintRow.{ConstraintRow}
 use Rattle.problem.specs.declared.rows.Span.{Span}

@@ -31,14 +31,16 @@ enum Effect {
 
 /// How many names had an installed version and have none in the set.
 pub fn removed_names(problem: &Problem<'_, '_, '_>, set: &[Standing]) -> u32
-    ensures { result ≡ removed_count (problem_of problem.now) (set_of set.now) }
+    ensures count { result ≡ removed_count (problem_of problem.now) (set_of set.now) }
+    ensures few { result ≤ 256 }
 {
     count_names(problem.text(), problem.packages(), set, Effect::Removes)
 }
 
 /// How many names have other versions in the set than were installed.
 pub fn changed_names(problem: &Problem<'_, '_, '_>, set: &[Standing]) -> u32
-    ensures { result ≡ changed_count (problem_of problem.now) (set_of set.now) }
+    ensures count { result ≡ changed_count (problem_of problem.now) (set_of set.now) }
+    ensures few { result ≤ 256 }
 {
     count_names(problem.text(), problem.packages(), set, Effect::Changes)
 }
@@ -46,7 +48,8 @@ pub fn changed_names(problem: &Problem<'_, '_, '_>, set: &[Standing]) -> u32
 /// How many names a set affects; each counts at its first stanza.
 fn count_names(text: &[u8], packages: &[PackageRow], set: &[Standing], effect: Effect) -> u32
     requires { length packages.now ≤ 256 }
-    ensures { result ≡ how_many (affected text.now set.now packages.now effect) (row_names text.now [] packages.now) }
+    ensures few { result ≤ 256 }
+    ensures count { result ≡ how_many (affected text.now set.now packages.now effect) (row_names text.now [] packages.now) }
 {
     let mut count = 0;
     for place in 0..packages.len() {

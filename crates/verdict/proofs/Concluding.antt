@@ -14,7 +14,7 @@ use Rattle.certificate.specs.Stream.{Stream}
 use Rattle.certificate.specs.Reading.{Memory}
 use Rattle.verdict.specs.Session.{Run, Answer, fail, set, opens, opening_fits, desk_on, IsPlanOrFail}
 use Rattle.verdict.specs.Law.{Means, verdict_of, up_to_empty}
-use Rattle.verdict.specs.Opened.{desk_of, plan_fault, claim_of, verdict_for, Opens, Concludes, TrueVerdict, Complete}
+use Rattle.verdict.specs.Opened.{desk_of, plan_fault, claim_of, verdict_for, Opens, OnlyRefused, Concludes, TrueVerdict, Complete}
 use Rattle.problem.proofs.Agreement.{plans_agree}
 use Rattle.verdict.proofs.Law.{law}
 
@@ -29,6 +29,19 @@ no_fault q (set s) p = (plans_agree.none q s).1 p
 pub same_verdict : (q : Problem) (a : Answer) → verdict_for (claim_of q a) ≡ verdict_of q a
 same_verdict q fail = refl
 same_verdict q (set s) = refl
+
+pub only_refused : (m m' : Meaning) (q : Problem) (a : Answer) (r : Result Open OpenFault) → Opens m q a r m' → OnlyRefused m q a r
+only_refused m m' q a (Ok o) h = tt
+only_refused m m' q a (Err InTrial) h = λ i p. absurd (h.0 i)
+only_refused m m' q a (Err (NotPlan n)) h = λ i p. absurd (subst there (sym (no_fault q a p) ∙ h.1) tt)
+  where
+    there : Option ℕ → Type 0
+    there None = Unit {0}
+    there (Some x) = ⊥
+only_refused m m' q a (Err NoRoom) h = λ i p. h.2
+
+pub not_opened : (m m' : Meaning) (q : Problem) (a : Answer) (f : OpenFault) → Opens m q a (Err f) m' → m.trial ≡ idle → IsPlanOrFail q a → T (opening_fits m q a) → ⊥
+not_opened m m' q a f o i p t = T_not (opening_fits m q a) (only_refused m m' q a (Err f) o i p) t
 
 module _ (q : Problem) (a : Answer) (k k' : Memory) (m m₁ m' : Meaning) (s s' : Stream) (o o' : Open) (rs : List Reply)
     (opened : Opens m q a (Ok o) m₁) (same : k' ≡ k) (ran : Run k' (desk_of o m₁ s) rs (desk_of o' m' s')) where
@@ -51,17 +64,8 @@ module _ (q : Problem) (a : Answer) (k : Memory) (m m' : Meaning) (s s' : Stream
   verdict_true (Ok v) c = subst (Means q a) (sym c.1.7) (law.sound q a m s k rs' c.0 (is_plan q a c.1.1) c.1.3 c.1.6)
   verdict_true (Err f) c = tt
 
-  pub not_opened : (f : OpenFault) → Opens m q a (Err f) m' → m.trial ≡ idle → IsPlanOrFail q a → T (opening_fits m q a) → ⊥
-  not_opened InTrial o i p t = o.0 i
-  not_opened (NotPlan n) o i p t = subst there (sym (no_fault q a p) ∙ o.1) tt
-    where
-      there : Option ℕ → Type 0
-      there None = Unit {0}
-      there (Some x) = ⊥
-  not_opened NoRoom o i p t = T_not (opening_fits m q a) o.2 t
-
   pub complete : (n : ℕ) → length rs' ≡ n → (r : Result Verdict SessionFault) → Concludes q a k m s rs r rs' m' s' → Complete q a k m s n r
   complete n e (Ok v) c i p t good within = ap Ok c.1.7
   complete n e (Err (Unclosed z)) c i p t good within =
       absurd (T_not c.0.emptied c.1.6 (law.complete q a m s k rs' c.0 good (subst (λ y. up_to_empty s.steps ≤ y) (sym e) within) c.1.3))
-  complete n e (Err (Opening f)) c i p t good within = absurd (not_opened f c.0 i p t)
+  complete n e (Err (Opening f)) c i p t good within = absurd (not_opened m m' q a f c.0 i p t)

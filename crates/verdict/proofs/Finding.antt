@@ -76,7 +76,7 @@ module _ (q : Problem) (a : Answer) (k : Memory) (m m' : Meaning) (s s' : Stream
   found (Ok v) f i p t good = ap Ok f.1.1
   found (Err (Step e n)) f i p t good = absurd (subst Stops (onward_law.complete q a m s k (Refused e n) f.0 good f.1.onward) tt)
   found (Err (Unclosed n)) f i p t good = absurd (subst Stops (onward_law.complete q a m s k Nothing f.0 good f.1.0.onward) tt)
-  found (Err (Opening e)) f i p t good = absurd (not_opened q a k m m' s s [] [] e f.0 i p t)
+  found (Err (Opening e)) f i p t good = absurd (not_opened m m' q a e f.0 i p t)
 
 module _ (ls ls₁ ls' : List ℤ) (hs hs' : List ℕ) (kept : length ls₁ ≡ length ls) (zero-literals : ls' ≡ replicate (length ls₁) (pos 0)) (zero-hints : hs' ≡ replicate (length hs) 0) where
   zeros : (ls' ≡ replicate (length ls) (pos 0)) × (hs' ≡ replicate (length hs) 0)

@@ -1,94 +1,133 @@
--- The clauses of an opening, laid one after the other.
-use Rattle.std.proofs.Common.{◌≡◌, ℕ, zero, suc, ◌+◌, ◌<◌, Bool, true, false, not, ◌&&◌, T, leb, List, [], ◌∷◌, ◌++◌, length, get_or, take, drop, Ok, Err, sym, refl, ap, ◌∙◌, subst, add-one, arith, T_not, drop-cons, take-suc}
-use lib.Seq.{take-length, drop-length}
+-- The clauses of an opening, added to a base one after the other.
+use Rattle.std.proofs.Common.{◌≡◌, ℕ, Bool, true, false, not, ◌&&◌, T, leb, List, [], ◌∷◌, is_err, Ok, Err, Result, sym, refl, ap, ◌∙◌, subst, inl, inr, T_not}
+use lib.Dec.{leb-zero}
+use Rattle.clauses.specs.Calls.{Clears, Adds}
+use Rattle.clauses.specs.ClauseBase.{Meaning, idle, fits, well_formed, cleared}
 use Rattle.clauses.specs.declared.fault.BaseFault.{BaseFault}
 use Rattle.clauses.specs.declared.fault.BaseFault.TheVariants.{Malformed, NotLive, NoRoom, InTrial}
-use Rattle.text.specs.Lists.{Each}
 use Rattle.problem.specs.Cudf.{Problem}
+use Rattle.problem.specs.Feeding.{Fed}
+use Rattle.text.specs.Lists.{Each}
 use Rattle.text.specs.Literals.{Clause}
-use Rattle.clauses.specs.ClauseBase.{Meaning, idle, fits, well_formed, with_added, cleared}
-use Rattle.verdict.specs.Session.{Answer, added_all, fit_all, opening_variables, opening_clauses}
-use Rattle.clauses.specs.Calls.{Clears, Adds}
-use Rattle.verdict.specs.Opened.{Lays}
-use Rattle.verdict.proofs.Rising.{Formed}
 use Rattle.text.proofs.Members.{and_both}
-
-pub each_at : {X : Type 0} (P : X → Type 0) (d : X) (xs : List X) (i : ℕ) → Each P xs → i < length xs → P (get_or xs i d)
-each_at P d [] i h l = absurd (omega arith)
-each_at P d (x ∷ xs) zero h l = h.0
-each_at P d (x ∷ xs) (suc i) h l = each_at P d xs i h.1 (omega arith)
-
-added_more : (m : Meaning) (cs : List Clause) (c : Clause) → added_all m (cs ++ c ∷ []) ≡ with_added (added_all m cs) c
-added_more m [] c = refl
-added_more m (d ∷ cs) c = added_more (with_added m d) cs c
-
--- the first i of the clauses laid on m
-pub record Laid (m : Meaning) (cs : List Clause) (i : ℕ) (m' : Meaning) : Type 0 where
-  pub is : m' ≡ added_all m (take i cs)
-  pub fit : fit_all m cs ≡ fit_all m' (drop i cs)
-  pub trial : m'.trial ≡ m.trial
-  pub room : m'.room ≡ m.room
-  pub variables : m'.variables ≡ m.variables
-
-pub laid_none : (m : Meaning) (cs : List Clause) → Laid m cs 0 m
-laid_none m cs = record { is = refl; fit = refl; trial = refl; room = refl; variables = refl }
-
-and_true : (a b : Bool) → T a → (a && b) ≡ b
-and_true true b t = refl
-and_true false b t = absurd t
+use Rattle.verdict.specs.Laying.{Took, Turned, Lays}
+use Rattle.verdict.specs.Opened.{claim_of, Claims, Opens}
+use Rattle.verdict.specs.OpeningCalls.{variables_on, clauses_on, within}
+use Rattle.verdict.specs.Session.{Answer, fail, set, added_all, fit_all, opening_variables, opening_clauses, opening_fits}
+use Rattle.verdict.specs.declared.outcome.OpenFault.TheVariants.{InTrial as open_in_trial}
+use Rattle.verdict.specs.declared.session.Claim.{Claim}
+use Rattle.verdict.proofs.Rising.{opening_formed}
 
 and_false : (a b : Bool) → T (not a) → T (not (a && b))
 and_false true b t = absurd t
 and_false false b t = tt
 
-module _ (m : Meaning) (cs : List Clause) (i : ℕ) (m' : Meaning) (below : i < length cs) (laid : Laid m cs i m') where
-  abbrev here : Clause
-  here = get_or cs i []
+and_not : (a b : Bool) → T (not b) → T (not (a && b))
+and_not true b t = t
+and_not false b t = tt
 
-  split : fit_all m cs ≡ (fits m' here && fit_all (with_added m' here) (drop (i + 1) cs))
-  split = laid.fit ∙ ap (fit_all m') (drop-cons cs i [] below) ∙ ap (λ y. fits m' here && fit_all (with_added m' here) (drop y cs)) (sym (add-one i))
+module _ {S : Type 0} (mean : S → Meaning) (name : S → ℕ) where
+  abbrev goes : S → Clause → S → Type 0
+  goes s c t = Took (mean s) c (mean t) × (name t ≡ name s)
 
-  pub laid_next : (n : ℕ) (m'' : Meaning) → Adds m' here (Ok n) m'' → Laid m cs (i + 1) m''
-  laid_next n m'' a = subst (Laid m cs (i + 1)) (sym a.4) (record {
-    is = ap (λ y. with_added y here) laid.is ∙ sym (added_more m (take i cs) here) ∙ ap (added_all m) (sym (ap (λ y. take y cs) (add-one i) ∙ take-suc cs i [] below));
-    fit = split ∙ and_true (fits m' here) (fit_all (with_added m' here) (drop (i + 1) cs)) a.2;
-    trial = laid.trial;
-    room = laid.room;
-    variables = laid.variables;
-  })
+  abbrev stops : S → Clause → S → Type 0
+  stops s c t = Turned (mean s) c (mean t) × (name t ≡ name s)
 
-  pub laid_fault : (f : BaseFault) (m'' : Meaning) → Adds m' here (Err f) m'' → m.trial ≡ idle → T (well_formed m.variables here) → T (not (fit_all m cs)) × (m''.trial ≡ idle) × (m''.room ≡ m.room)
-  laid_fault InTrial m'' a e w = absurd (a.0 (laid.trial ∙ e))
-  laid_fault NotLive m'' a e w = absurd a
-  laid_fault Malformed m'' a e w = absurd (T_not (well_formed m'.variables here) a.1 (subst (λ y. T (well_formed y here)) (sym laid.variables) w))
-  laid_fault NoRoom m'' a e w =
-      (subst (λ y. T (not y)) (sym split) (and_false (fits m' here) (fit_all (with_added m' here) (drop (i + 1) cs)) a.2), ap (λ y. y.trial) a.3 ∙ laid.trial ∙ e, ap (λ y. y.room) a.3 ∙ laid.room)
+  -- a sink keeps the base that it was lent
+  pub same_base : (cs : List Clause) (r : Bool) (s t : S) → Fed goes stops cs r s t → name t ≡ name s
+  same_base [] true s t e = ap name e
+  same_base [] false s t h = absurd h
+  same_base (c ∷ cs) true s t (u, (g, h)) = same_base cs true u t h ∙ g.1
+  same_base (c ∷ cs) false s t (inl h) = h.1
+  same_base (c ∷ cs) false s t (inr (u, (g, h))) = same_base cs false u t h ∙ g.1
 
-pub laid_all : (m : Meaning) (cs : List Clause) (m' : Meaning) → Laid m cs (length cs) m' → T (fit_all m cs) × (m' ≡ added_all m cs)
-laid_all m cs m' l = (
-  subst T (sym (l.fit ∙ ap (fit_all m') (drop-length cs))) tt,
-  l.is ∙ ap (added_all m) (take-length cs),
-)
+  abbrev Short : Meaning → List Clause → Meaning → Type 0
+  Short m cs m' = (Each (λ c. T (well_formed m.variables c)) cs → T (not (fit_all m cs))) × (m'.trial ≡ idle) × (m'.room ≡ m.room)
 
--- and over the base as it was before it was cleared
-module _ (m : Meaning) (q : Problem) (a : Answer) where
-  pub lays_ok : (m₁ m' : Meaning) → Clears m (opening_variables q a) (Ok tt) m₁ → Laid m₁ (opening_clauses q a) (length (opening_clauses q a)) m' → Lays m q a (Ok tt) m'
-  lays_ok m₁ m' c l =
-      let w = laid_all (cleared m (opening_variables q a)) (opening_clauses q a) m' (subst (λ y. Laid y (opening_clauses q a) (length (opening_clauses q a)) m') c.2 l) in
-      (and_both (leb (opening_variables q a) m.room.variables) _ c.1 w.0, w.1)
+  took_all : (cs : List Clause) (s t : S) → Fed goes stops cs true s t → T (fit_all (mean s) cs) × (mean t ≡ added_all (mean s) cs)
+  took_all [] s t e = (tt, ap mean e)
+  took_all (c ∷ cs) s t (u, (((n, a), _), h)) =
+      let w = took_all cs u t h in
+      (and_both (fits (mean s) c) _ a.2 (subst (λ y. T (fit_all y cs)) a.4 w.0), w.1 ∙ ap (λ y. added_all y cs) a.4)
 
-  pub lays_fault : (m₁ m' m'' : Meaning) (i : ℕ) (f : BaseFault) → Clears m (opening_variables q a) (Ok tt) m₁ → i < length (opening_clauses q a) → Laid m₁ (opening_clauses q a) i m' → Formed q a →
-      Adds m' (get_or (opening_clauses q a) i []) (Err f) m'' → Lays m q a (Err f) m''
-  lays_fault m₁ m' m'' i f c below l formed x =
-      let w = laid_fault (cleared m (opening_variables q a)) (opening_clauses q a) i m' below (subst (λ y. Laid y (opening_clauses q a) i m') c.2 l) f m'' x refl (each_at (λ d. T (well_formed (opening_variables q a) d)) [] (opening_clauses q a) i formed below) in
-      (and-not (leb (opening_variables q a) m.room.variables) _ w.0, w.1, w.2)
-    where
-      and-not : (x y : Bool) → T (not y) → T (not (x && y))
-      and-not true y t = t
-      and-not false y t = tt
+  turned : (c : Clause) (cs : List Clause) (s t : S) → (mean s).trial ≡ idle → (f : BaseFault) → Adds (mean s) c (Err f) (mean t) → Short (mean s) (c ∷ cs) (mean t)
+  turned c cs s t i InTrial a = absurd (a.0 i)
+  turned c cs s t i NotLive a = absurd a
+  turned c cs s t i Malformed a = ((λ e. absurd (T_not (well_formed (mean s).variables c) a.1 e.0)), ap (λ y. y.trial) a.2 ∙ i, ap (λ y. y.room) a.2)
+  turned c cs s t i NoRoom a = ((λ e. and_false (fits (mean s) c) _ a.2), ap (λ y. y.trial) a.3 ∙ i, ap (λ y. y.room) a.3)
 
-  pub lays_clear : (f : BaseFault) (m₁ : Meaning) → m.trial ≡ idle → Clears m (opening_variables q a) (Err f) m₁ → Lays m q a (Err f) m₁
-  lays_clear InTrial m₁ e c = absurd (c.0 e)
-  lays_clear NotLive m₁ e c = absurd c
-  lays_clear Malformed m₁ e c = absurd c
-  lays_clear NoRoom m₁ e c = (and_false (leb (opening_variables q a) m.room.variables) _ c.1, ap (λ y. y.trial) c.2 ∙ e, ap (λ y. y.room) c.2)
+  took_some : (cs : List Clause) (s t : S) → (mean s).trial ≡ idle → Fed goes stops cs false s t → Short (mean s) cs (mean t)
+  took_some [] s t i h = absurd h
+  took_some (c ∷ cs) s t i (inl ((f, a), _)) = turned c cs s t i f a
+  took_some (c ∷ cs) s t i (inr (u, (((n, a), _), h))) =
+      let w = took_some cs u t (ap (λ y. y.trial) a.4 ∙ i) h in (
+        (λ e. and_not (fits (mean s) c) _ (subst (λ y. T (not (fit_all y cs))) a.4 (w.0 (subst (λ y. Each (λ d. T (well_formed y.variables d)) cs) (sym a.4) e.1)))),
+        w.1,
+        w.2 ∙ ap (λ y. y.room) a.4,
+      )
+
+  -- and over the base as it was before it was cleared
+  pub laid : (m : Meaning) (V V' : ℕ) (cs : List Clause) (r : Bool) (s t : S) → V' ≡ V → Clears m V' (Ok tt) (mean s) → Fed goes stops cs r s t → Lays m V cs r (mean t)
+  laid m V V' cs true s t v c h =
+      let e = c.2 ∙ ap (cleared m) v in
+      let w = took_all cs s t h in
+      (and_both (leb V m.room.variables) _ (subst (λ y. T (leb y m.room.variables)) v c.1) (subst (λ y. T (fit_all y cs)) e w.0), w.1 ∙ ap (λ y. added_all y cs) e)
+  laid m V V' cs false s t v c h =
+      let e = c.2 ∙ ap (cleared m) v in
+      let w = took_some cs s t (ap (λ y. y.trial) e) h in (
+        (λ f. and_not (leb V m.room.variables) _ (subst (λ y. T (not (fit_all y cs))) e (w.0 (subst (λ y. Each (λ d. T (well_formed y.variables d)) cs) (sym e) f)))),
+        w.1,
+        w.2 ∙ ap (λ y. y.room) e,
+      )
+
+-- a base that was cleared for so many variables, and one that could not be
+pub was_cleared : (m m' : Meaning) (V : ℕ) (r : Result (Unit {0}) BaseFault) → false ≡ is_err r → Clears m V r m' → Clears m V (Ok tt) m'
+was_cleared m m' V (Ok u) e c = c
+was_cleared m m' V (Err f) e c = absurd (subst T (sym e) tt)
+
+pub not_cleared : (m m' : Meaning) (V V' : ℕ) (cs : List Clause) (r : Result (Unit {0}) BaseFault) → true ≡ is_err r → V' ≡ V → m.trial ≡ idle → Clears m V' r m' → Lays m V cs false m'
+not_cleared m m' V V' cs (Ok u) e v i c = absurd (subst T e tt)
+not_cleared m m' V V' cs (Err InTrial) e v i c = absurd (c.0 i)
+not_cleared m m' V V' cs (Err NotLive) e v i c = absurd c
+not_cleared m m' V V' cs (Err Malformed) e v i c = absurd c
+not_cleared m m' V V' cs (Err NoRoom) e v i c =
+    ((λ e. and_false (leb V m.room.variables) _ (subst (λ y. T (not (leb y m.room.variables))) v c.1)), ap (λ y. y.trial) c.2 ∙ i, ap (λ y. y.room) c.2)
+
+-- what a session opens with, by its answer
+variables_on_claim : (q : Problem) (a : Answer) → variables_on q (claim_of q a) ≡ opening_variables q a
+variables_on_claim q fail = refl
+variables_on_claim q (set s) = refl
+
+clauses_on_claim : (q : Problem) (a : Answer) → clauses_on q (claim_of q a) ≡ opening_clauses q a
+clauses_on_claim q fail = refl
+clauses_on_claim q (set s) = refl
+
+module _ (m m₁ m₂ : Meaning) (q : Problem) (a : Answer) (k : Claim) (c : Clears m 0 (Ok tt) m₁) (claims : Claims q a (Ok k)) where
+  lays_on : (r : Bool) → Lays m₁ (variables_on q (within k)) (clauses_on q (within k)) r m₂ → Lays (cleared m 0) (opening_variables q a) (opening_clauses q a) r m₂
+  lays_on r h =
+      let w : within k ≡ claim_of q a = ap within claims.1 ∙ claims.2 in
+      subst (λ y. Lays (cleared m 0) (opening_variables q a) y r m₂) (clauses_on_claim q a)
+      (subst (λ y. Lays (cleared m 0) y (clauses_on q (claim_of q a)) r m₂) (variables_on_claim q a)
+      (subst (λ y. Lays (cleared m 0) (variables_on q y) (clauses_on q y) r m₂) w
+      (subst (λ y. Lays y (variables_on q (within k)) (clauses_on q (within k)) r m₂) c.2 h)))
+
+  pub opened_on : Lays m₁ (variables_on q (within k)) (clauses_on q (within k)) true m₂ → Opens m q a (Ok (record { claim = k; last = 0; emptied = false })) m₂
+  opened_on h = let w = lays_on true h in (c.0, claims.0, w.0, w.1, ap (λ y. record { claim = y; last = 0; emptied = false }) claims.1)
+
+  pub not_fitting : Lays m₁ (variables_on q (within k)) (clauses_on q (within k)) false m₂ → T (not (opening_fits m q a)) × (m₂.trial ≡ idle) × (m₂.room ≡ m.room)
+  not_fitting h = let w = lays_on false h in (w.0 (opening_formed q a), w.1, w.2)
+
+-- the clear that is made first, and the one that a refused opening ends with
+pub first_cleared : (m m₁ : Meaning) (q : Problem) (a : Answer) (r : Result (Unit {0}) BaseFault) → true ≡ is_err r → Clears m 0 r m₁ → Opens m q a (Err open_in_trial) m₁
+first_cleared m m₁ q a (Ok u) e c = absurd (subst T e tt)
+first_cleared m m₁ q a (Err InTrial) e c = c
+first_cleared m m₁ q a (Err NotLive) e c = absurd c
+first_cleared m m₁ q a (Err Malformed) e c = absurd c
+first_cleared m m₁ q a (Err NoRoom) e c = absurd (T_not (leb 0 m.room.variables) c.1 (subst T (sym (leb-zero m.room.variables)) tt))
+
+pub cleared_again : (m m₂ m₃ : Meaning) (r : Result (Unit {0}) BaseFault) → m₂.trial ≡ idle → m₂.room ≡ m.room → Clears m₂ 0 r m₃ → m₃ ≡ cleared m 0
+cleared_again m m₂ m₃ (Ok u) i e c = c.2 ∙ ap {B = Meaning} (λ y. record { variables = 0; live = []; next = 1; room = y; trial = idle }) e
+cleared_again m m₂ m₃ (Err InTrial) i e c = absurd (c.0 i)
+cleared_again m m₂ m₃ (Err NotLive) i e c = absurd c
+cleared_again m m₂ m₃ (Err Malformed) i e c = absurd c
+cleared_again m m₂ m₃ (Err NoRoom) i e c = absurd (T_not (leb 0 m₂.room.variables) c.1 (subst T (sym (leb-zero m₂.room.variables)) tt))

@@ -1,6 +1,7 @@
 pub mod Calls
 pub mod Finding
 pub mod Indicators
+pub mod Laying
 pub mod Law
 pub mod Lines
 pub mod Numbers

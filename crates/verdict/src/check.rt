@@ -1,5 +1,6 @@
 //! From the bytes of three files to the line.
-ghost use Rattle.std.specs.Prelude.{◌≡◌, length, replicate};
+ghost use Rattle.std.specs.Prelude.{◌≡◌, length, replicate, pos};
+ghost use Rattle.certificate.specs.Reading.{memory_of};
 ghost use Rattle.problem.specs.Answers.{read_answer};
 ghost use Rattle.problem.specs.Meaning.{problem_of};
 ghost use Rattle.problem.specs.PlanClauses.{plan_clauses, first_false};
@@ -7,10 +8,15 @@ ghost use Rattle.problem.specs.Reading.{read_problem};
 ghost use Rattle.problem.specs.Rows.{no_package, no_constraint};
 ghost use Rattle.problem.specs.Sets.{set_of};
 ghost use Rattle.problem.specs.declared.standing.Standing.TheVariants.{Unnamed};
-ghost use Rattle.verdict.specs.Verdicts.{length_ok, lengths_ok, on_plan, on_answer, on_problem, judged, line_of, Means};
+ghost use Rattle.verdict.specs.Opened.{answer_of};
+ghost use Rattle.verdict.specs.Verdicts.{rooms_of, length_ok, lengths_ok, line_for, InSession, OnPlan, OnAnswer, OnProblem, Judged, line_of, Comes, Means, Completes};
 
 use crate::fault::VerdictFault;
 use crate::line::{Counts, File, Line};
+use crate::outcome::Verdict;
+use crate::whole::conclude;
+use certificate::form::open;
+use clauses::base::ClauseBase;
 use problem::answer::{Answer, read_answer};
 use problem::counts::{changed_names, removed_names};
 use problem::plan_check::check_plan;
@@ -41,100 +47,182 @@ fn check_lengths(problem: &[u8], answer: &[u8], certificate: &[u8]) -> Result<()
     check_length(File::Certificate, certificate)
 }
 
-/// What the files come to: a plan's counts, or nothing where a certificate would have to be checked.
-fn judge(
-    problem_text: &[u8],
-    answer_text: &[u8],
-    certificate: &[u8],
-    packages: &mut [PackageRow],
-    constraints: &mut [ConstraintRow],
-    table: &mut [Standing],
-) -> Result<Option<Counts>, VerdictFault>
-    ensures { result ≡ on_problem (length table.old) answer_text.now certificate.now (read_problem (length packages.old) (length constraints.old) problem_text.now) }
+/// The line of a verdict.
+fn line_for(verdict: Verdict) -> Line
+    ensures { result ≡ line_for verdict }
 {
-    let mut problem = Problem::none();
-    read_problem(problem_text, packages, constraints, &mut problem)?;
-    judge_answer(&problem, answer_text, certificate, table)
+    match verdict {
+        Verdict::Optimal(removed, changed) => Line::Optimal(Counts { removed, changed }),
+        Verdict::Impossible => Line::Impossible,
+    }
 }
 
-/// What an answer to a problem comes to.
-fn judge_answer(
+/// What a session on an answer comes to, with the steps of a certificate.
+fn judge_session<B: ClauseBase>(
     problem: &Problem<'_, '_, '_>,
-    answer_text: &[u8],
+    answer: Answer,
+    set: &[Standing],
     certificate: &[u8],
-    table: &mut [Standing],
-) -> Result<Option<Counts>, VerdictFault>
-    ensures { result ≡ on_answer (problem_of problem.now) certificate.now (read_answer (problem_of problem.now).packages (length table.old) answer_text.now) }
+    base: &mut B,
+    literals: &mut [i32],
+    hints: &mut [u32],
+) -> Result<Line, VerdictFault>
+    ensures { InSession (memory_of literals.old hints.old) (problem_of problem.now) (answer_of answer set.now) certificate.now (B.meaning base.old) result (B.meaning base.new) }
 {
-    match read_answer(answer_text, problem, table)? {
-        Answer::Fail => Ok(None),
-        Answer::Set => judge_set(problem, table, certificate),
-    }
+    let mut source = open(certificate);
+    let verdict = conclude(base, problem, answer, set, &mut source, literals, hints)?;
+    Ok(line_for(verdict))
 }
 
 /// What a set comes to.
-fn judge_set(
+fn judge_set<B: ClauseBase>(
     problem: &Problem<'_, '_, '_>,
     set: &[Standing],
     certificate: &[u8],
-) -> Result<Option<Counts>, VerdictFault>
-    ensures { result ≡ on_plan (problem_of problem.now) (set_of set.now) certificate.now (first_false (set_of set.now) (plan_clauses (problem_of problem.now))) }
+    base: &mut B,
+    literals: &mut [i32],
+    hints: &mut [u32],
+) -> Result<Line, VerdictFault>
+    ensures { OnPlan (memory_of literals.old hints.old) (problem_of problem.now) (set_of set.now) certificate.now (first_false (set_of set.now) (plan_clauses (problem_of problem.now))) (B.meaning base.old) result (B.meaning base.new) }
 {
     check_plan(problem, set)?;
-    if !certificate.is_empty() {
-        return Ok(None);
+    if certificate.is_empty() {
+        return Ok(Line::Plan(Counts {
+            removed: removed_names(problem, set),
+            changed: changed_names(problem, set),
+        }));
     }
-    Ok(Some(Counts {
-        removed: removed_names(problem, set),
-        changed: changed_names(problem, set),
-    }))
+    judge_session(
+        problem,
+        Answer::Set,
+        set,
+        certificate,
+        base,
+        literals,
+        hints,
+    )
 }
 
-/// The same once their lengths are known to be within the limit.
-fn judge_files(
+/// What an answer to a problem comes to.
+fn judge_answer<B: ClauseBase>(
+    problem: &Problem<'_, '_, '_>,
+    answer: &[u8],
+    certificate: &[u8],
+    table: &mut [Standing],
+    base: &mut B,
+    literals: &mut [i32],
+    hints: &mut [u32],
+) -> Result<Line, VerdictFault>
+    ensures { OnAnswer (memory_of literals.old hints.old) (problem_of problem.now) certificate.now (read_answer (problem_of problem.now).packages (length table.old) answer.now) (B.meaning base.old) result (B.meaning base.new) }
+{
+    match read_answer(answer, problem, table)? {
+        Answer::Fail => judge_session(
+            problem,
+            Answer::Fail,
+            table,
+            certificate,
+            base,
+            literals,
+            hints,
+        ),
+        Answer::Set => judge_set(problem, table, certificate, base, literals, hints),
+    }
+}
+
+/// What files that are not too long come to.
+fn judge<B: ClauseBase>(
+    problem_text: &[u8],
+    answer: &[u8],
+    certificate: &[u8],
+    packages: &mut [PackageRow],
+    constraints: &mut [ConstraintRow],
+    table: &mut [Standing],
+    base: &mut B,
+    literals: &mut [i32],
+    hints: &mut [u32],
+) -> Result<Line, VerdictFault>
+    ensures { OnProblem (rooms_of packages.old constraints.old table.old literals.old hints.old) answer.now certificate.now (read_problem (length packages.old) (length constraints.old) problem_text.now) (B.meaning base.old) result (B.meaning base.new) }
+{
+    let mut problem = Problem::none();
+    read_problem(problem_text, packages, constraints, &mut problem)?;
+    judge_answer(&problem, answer, certificate, table, base, literals, hints)
+}
+
+/// What all files come to.
+fn judge_files<B: ClauseBase>(
     problem: &[u8],
     answer: &[u8],
     certificate: &[u8],
     packages: &mut [PackageRow],
     constraints: &mut [ConstraintRow],
     table: &mut [Standing],
-) -> Result<Option<Counts>, VerdictFault>
-    ensures { result ≡ judged (record { packages = length packages.old; constraints = length constraints.old; table = length table.old }) problem.now answer.now certificate.now }
+    base: &mut B,
+    literals: &mut [i32],
+    hints: &mut [u32],
+) -> Result<Line, VerdictFault>
+    ensures { Judged (rooms_of packages.old constraints.old table.old literals.old hints.old) problem.now answer.now certificate.now (B.meaning base.old) result (B.meaning base.new) }
 {
     check_lengths(problem, answer, certificate)?;
-    judge(problem, answer, certificate, packages, constraints, table)
-}
-
-/// The line that three files come to, or nothing where a certificate would have to be checked. The memory is then all
-/// zero.
-pub fn check(
-    problem: &[u8],
-    answer: &[u8],
-    certificate: &[u8],
-    packages: &mut [PackageRow],
-    constraints: &mut [ConstraintRow],
-    table: &mut [Standing],
-) -> Option<Line>
-    ensures line { result ≡ line_of (judged (record { packages = length packages.old; constraints = length constraints.old; table = length table.old }) problem.now answer.now certificate.now) }
-    ensures means { Means (record { packages = length packages.old; constraints = length constraints.old; table = length table.old }) problem.now answer.now result }
-    ensures packages { packages.new ≡ replicate (length packages.old) no_package }
-    ensures constraints { constraints.new ≡ replicate (length constraints.old) no_constraint }
-    ensures table { table.new ≡ replicate (length table.old) Unnamed }
-{
-    let judgement = judge_files(problem, answer, certificate, packages, constraints, table);
-    packages.fill(NO_PACKAGE);
-    constraints.fill(NO_CONSTRAINT);
-    table.fill(Standing::Unnamed);
-    line_of(judgement)
+    judge(
+        problem,
+        answer,
+        certificate,
+        packages,
+        constraints,
+        table,
+        base,
+        literals,
+        hints,
+    )
 }
 
 /// The line for what the files came to.
-fn line_of(judgement: Result<Option<Counts>, VerdictFault>) -> Option<Line>
+fn line_of(judgement: Result<Line, VerdictFault>) -> Line
     ensures { result ≡ line_of judgement }
 {
     match judgement {
-        Ok(Some(counts)) => Some(Line::Plan(counts)),
-        Ok(None) => None,
-        Err(fault) => Some(Line::Refused(fault.refusal())),
+        Ok(line) => line,
+        Err(fault) => Line::Refused(fault.refusal()),
     }
+}
+
+/// The line that three files come to. The memory is then all zero, and the base holds what a session left, if one was
+/// opened.
+pub fn check<B: ClauseBase>(
+    problem: &[u8],
+    answer: &[u8],
+    certificate: &[u8],
+    packages: &mut [PackageRow],
+    constraints: &mut [ConstraintRow],
+    table: &mut [Standing],
+    base: &mut B,
+    literals: &mut [i32],
+    hints: &mut [u32],
+) -> Line
+    ensures line { Comes (rooms_of packages.old constraints.old table.old literals.old hints.old) problem.now answer.now certificate.now (B.meaning base.old) result (B.meaning base.new) }
+    ensures means { Means (rooms_of packages.old constraints.old table.old literals.old hints.old) problem.now answer.now result }
+    ensures completes { Completes (rooms_of packages.old constraints.old table.old literals.old hints.old) problem.now answer.now certificate.now (B.meaning base.old) result }
+    ensures packages { packages.new ≡ replicate (length packages.old) no_package }
+    ensures constraints { constraints.new ≡ replicate (length constraints.old) no_constraint }
+    ensures table { table.new ≡ replicate (length table.old) Unnamed }
+    ensures literals { literals.new ≡ replicate (length literals.old) (pos 0) }
+    ensures hints { hints.new ≡ replicate (length hints.old) 0 }
+{
+    let judgement = judge_files(
+        problem,
+        answer,
+        certificate,
+        packages,
+        constraints,
+        table,
+        base,
+        literals,
+        hints,
+    );
+    packages.fill(NO_PACKAGE);
+    constraints.fill(NO_CONSTRAINT);
+    table.fill(Standing::Unnamed);
+    literals.fill(0);
+    hints.fill(0);
+    line_of(judgement)
 }

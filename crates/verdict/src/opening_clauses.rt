@@ -4,11 +4,12 @@ ghost use Rattle.problem.specs.Feeding.{Fed};
 ghost use Rattle.problem.specs.Meaning.{problem_of};
 ghost use Rattle.problem.specs.Cudf.{names, installed_names};
 ghost use Rattle.verdict.specs.Opening.{variables, removed_clauses, changed_clauses, opening};
-ghost use Rattle.verdict.specs.OpeningCalls.{Places, Small, second_base, counters_of, at_most, fewer, bounds_of};
+ghost use Rattle.verdict.specs.OpeningCalls.{Places, Small, second_base, counters_of, at_most, fewer, bounds_of, variables_on, clauses_on, within};
 
 use crate::counter::feed_counter;
 use crate::indicators::feed_indicators;
 use crate::names::{Indicator, count_listed};
+use crate::session::Claim;
 use crate::variable::{no, yes};
 use problem::plan_clauses::feed_plan_clauses;
 use problem::sink::ClauseSink;
@@ -54,14 +55,24 @@ fn registers(inputs: u32, limit: u32) -> u32
     inputs * limit
 }
 
-/// The number of variables of the opening. Counts above 256 are taken as 256.
-pub fn count_variables(problem: &Problem<'_, '_, '_>, removed: u32, changed: u32) -> u32
+/// The number of variables of the opening on a plan. Counts above 256 are taken as 256.
+fn count_on_plan(problem: &Problem<'_, '_, '_>, removed: u32, changed: u32) -> u32
     ensures { result ≡ variables (problem_of problem.now) (min removed 256) (min changed 256) }
 {
     let places = lay_out(problem);
     let most = removed.min(256);
     let second = registers(places.names, changed.min(256));
     places.choice + registers(places.installed, most + 1) + second
+}
+
+/// The number of variables of the opening. Counts above 256 are taken as 256.
+pub fn count_variables(problem: &Problem<'_, '_, '_>, claim: Claim) -> u32
+    ensures { result ≡ variables_on (problem_of problem.now) (within claim) }
+{
+    match claim {
+        Claim::Fail => problem.packages().len() as u32,
+        Claim::Plan(removed, changed) => count_on_plan(problem, removed, changed),
+    }
 }
 
 /// The counters of the removed and of the changed variables.
@@ -161,9 +172,8 @@ fn feed_bounds<S: ClauseSink>(places: Layout, removed: u32, changed: u32, sink: 
     feed_fewer(yes(places.choice), last, changed, sink)
 }
 
-/// Hands the clauses of the opening to a sink as long as it takes them, and says whether it took them all. Counts above
-/// 256 are taken as 256.
-pub fn feed_opening<S: ClauseSink>(
+/// Hands the clauses of the opening on a plan to a sink. Counts above 256 are taken as 256.
+fn feed_on_plan<S: ClauseSink>(
     problem: &Problem<'_, '_, '_>,
     removed: u32,
     changed: u32,
@@ -184,4 +194,19 @@ pub fn feed_opening<S: ClauseSink>(
         return false;
     }
     feed_bounds(places, most, more, sink)
+}
+
+/// Hands the clauses of the opening to a sink as long as it takes them, and says whether it took them all. Counts above
+/// 256 are taken as 256.
+pub fn feed_opening<S: ClauseSink>(
+    problem: &Problem<'_, '_, '_>,
+    claim: Claim,
+    sink: &mut S,
+) -> bool
+    ensures { Fed S.goes S.stops (clauses_on (problem_of problem.now) (within claim)) result sink.old sink.new }
+{
+    match claim {
+        Claim::Fail => feed_plan_clauses(problem, sink),
+        Claim::Plan(removed, changed) => feed_on_plan(problem, removed, changed, sink),
+    }
 }

@@ -1,8 +1,10 @@
 //! What a session comes to.
 ghost use Rattle.std.specs.Prelude.{◌≡◌};
 ghost use Rattle.verdict.specs.Numbers.{open_number, session_number};
+ghost use Rattle.verdict.specs.declared.outcome.OpenFault.TheVariants.{NotPlan};
 
 use crate::reply::StepFault;
+use problem::plan_check::NotPlan as Unplanned;
 
 #[derive(Clone, Copy, PartialEq, Eq, Debug)]
 pub enum Verdict {
@@ -37,6 +39,14 @@ pub enum RunFault {
     Step(StepFault, u32),
     /// With the place after the last step that was accepted.
     Unclosed(u64),
+}
+
+impl From<Unplanned> for OpenFault {
+    ghost from_gives = { λ f r. r ≡ NotPlan f.clause };
+
+    fn from(fault: Unplanned) -> OpenFault {
+        OpenFault::NotPlan(fault.clause)
+    }
 }
 
 impl OpenFault {

@@ -29,5 +29,7 @@ loop-place-preserved c =
     ]
 
 pub returns : goal.returns
-returns c =
-    all_counted _ _ _ (names_none c.args.text.now (affected c.args.text.now c.args.set.now c.args.packages.now c.args.effect) c.args.packages.now c.loop-place.place c.loop-place-test.false) c.loop-place.invariant.0
+returns c = record {
+  count = all_counted _ _ _ (names_none c.args.text.now (affected c.args.text.now c.args.set.now c.args.packages.now c.args.effect) c.args.packages.now c.loop-place.place c.loop-place-test.false) c.loop-place.invariant.0;
+  few = omega (arith, c.loop-place.invariant.1, c.requires);
+}

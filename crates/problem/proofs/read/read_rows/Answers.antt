@@ -1,20 +1,17 @@
 use Rattle.std.proofs.Common.{◌≡◌, ◌≤◌, min, [], length, IfSome, None, sym, ap, ◌∙◌, subst, arith}
 use Rattle.text.specs.Doc.{doc}
 use Rattle.text.specs.Lists.{Each}
-use Rattle.text.specs.Rows.{items, Same}
-use Rattle.text.specs.declared.rows.Rows.{Rows}
+use Rattle.text.specs.Rows.{items}
 use Rattle.problem.specs.ConstraintLists.{limit_of}
 use Rattle.problem.specs.Drafts.{WantedOk}
 use Rattle.problem.specs.Reading.{closed}
 use Rattle.problem.specs.Repeats.{repeated_in}
 use Rattle.problem.specs.Rows.{ConstraintOk}
 use Rattle.problem.specs.Sections.{limits_of, state_of, package_limit, Sound}
+use Rattle.text.proofs.Writing.{same_then}
 use Rattle.problem.proofs.Again.{stands_once}
 use Rattle.problem.proofs.Concluding.{read_twice, read_whole}
 use Rattle.problem.proofs.read.read_rows.Goals as goal
-
-same_then : {T : Type 0} (r s t : Rows T) → Same r s → Same s t → Same r t
-same_then r s t h k = record { room = k.room ∙ h.room; zero = k.zero ∙ h.zero; lender = k.lender ∙ h.lender }
 
 pub returns-in-Some-first_repeat : goal.returns-in-Some-first_repeat
 returns-in-Some-first_repeat c =

@@ -1,6 +1,6 @@
 use Rattle.problem.proofs.Feeds.{fed_on, fed_stop, fed_as}
 use Rattle.verdict.proofs.OpeningParts.{opened}
-use Rattle.verdict.proofs.opening_clauses.feed_opening.Goals as goal
+use Rattle.verdict.proofs.opening_clauses.feed_on_plan.Goals as goal
 
 pub returns-then-not-feed_plan_clauses : goal.returns-then-not-feed_plan_clauses
 returns-then-not-feed_plan_clauses g c =
