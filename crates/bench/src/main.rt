@@ -5,6 +5,7 @@ use clauses::base::ClauseBase;
 use clauses::counting::Counting;
 use clauses::row::Row;
 use clauses::watched::Watched;
+use std::alloc::{AllocError, Global};
 use std::env;
 use std::time::Instant;
 
@@ -13,6 +14,9 @@ const VARIABLES: usize = 4097;
 const CLAUSES: usize = 8192;
 
 const LITERALS: usize = 24_576;
+
+/// How many clauses are tried.
+const SIZES: [u32; 4] = [1000, 2000, 4000, 8000];
 
 fn literal(state: u32, variables: u32) -> i32 {
     let variable = (state >> 8) % variables.max(1) % 4096;
@@ -79,43 +83,69 @@ fn measure<B: ClauseBase>(
     Ok(())
 }
 
-fn main(rt: HostRuntime) -> anyhow::Result<()> {
-    let loud = env::args(&rt)?.count() > 1;
-    let count = if loud { 2000 } else { 1 };
-    let heap = rt.alloc();
-    let mut rows = vec![in heap; Row::NONE; CLAUSES]?;
-    let mut literals = vec![in heap; 0i32; LITERALS]?;
-    let mut values = vec![in heap; None; VARIABLES]?;
-    let mut trail = vec![in heap; 0i32; VARIABLES]?;
-    let mut heads = vec![in heap; 0u32; 2 * VARIABLES]?;
-    let mut next = vec![in heap; 0u32; LITERALS]?;
-    let mut owners = vec![in heap; 0u32; LITERALS]?;
-    let mut scratch = vec![in heap; 0u32; 2 * CLAUSES]?;
-    for clauses in [1000, 2000, 4000, 8000] {
-        let mut counting = Counting::new(
-            &mut rows,
-            &mut literals,
-            &mut values,
-            &mut trail,
-            &mut heads,
-            &mut next,
-            &mut owners,
-            &mut scratch,
-        );
-        measure(&rt, "counting", &mut counting, clauses, count)?;
+/// Memory for the largest base.
+#[derive(Drop)]
+struct Memory {
+    rows: Vec<Row>,
+    literals: Vec<i32>,
+    values: Vec<Option<bool>>,
+    trail: Vec<i32>,
+    heads: Vec<u32>,
+    next: Vec<u32>,
+    owners: Vec<u32>,
+    scratch: Vec<u32>,
+}
+
+impl Memory {
+    fn new(alloc: Global) -> Result<Memory, AllocError> {
+        Ok(Memory {
+            rows: vec![in alloc; Row::NONE; CLAUSES]?,
+            literals: vec![in alloc; 0i32; LITERALS]?,
+            values: vec![in alloc; None; VARIABLES]?,
+            trail: vec![in alloc; 0i32; VARIABLES]?,
+            heads: vec![in alloc; 0u32; 2 * VARIABLES]?,
+            next: vec![in alloc; 0u32; LITERALS]?,
+            owners: vec![in alloc; 0u32; LITERALS]?,
+            scratch: vec![in alloc; 0u32; 2 * CLAUSES]?,
+        })
     }
-    for clauses in [1000, 2000, 4000, 8000] {
-        let mut watched = Watched::new(
-            &mut rows,
-            &mut literals,
-            &mut values,
-            &mut trail,
-            &mut heads,
-            &mut next,
-            &mut owners,
-            &mut scratch,
-        );
-        measure(&rt, "watched", &mut watched, clauses, count)?;
+
+    fn counting(&mut self) -> Counting<'_> {
+        Counting::new(
+            &mut self.rows,
+            &mut self.literals,
+            &mut self.values,
+            &mut self.trail,
+            &mut self.heads,
+            &mut self.next,
+            &mut self.owners,
+            &mut self.scratch,
+        )
+    }
+
+    fn watched(&mut self) -> Watched<'_> {
+        Watched::new(
+            &mut self.rows,
+            &mut self.literals,
+            &mut self.values,
+            &mut self.trail,
+            &mut self.heads,
+            &mut self.next,
+            &mut self.owners,
+            &mut self.scratch,
+        )
+    }
+}
+
+fn main(rt: HostRuntime) -> anyhow::Result<()> {
+    let is_loud = env::args(&rt)?.count() > 1;
+    let count = if is_loud { 2000 } else { 1 };
+    let mut memory = Memory::new(rt.alloc())?;
+    for clauses in SIZES {
+        measure(&rt, "counting", &mut memory.counting(), clauses, count)?;
+    }
+    for clauses in SIZES {
+        measure(&rt, "watched", &mut memory.watched(), clauses, count)?;
     }
     Ok(())
 }

@@ -28,11 +28,8 @@ struct Lengths {
 pub fn read_case(table: &[u8]) -> Option<Case<'_>>
     ensures { IfSome result (λ c. length c.rest.now < length table.now) }
 {
-    let n = index_of(table, LF);
-    if n >= table.len() {
-        return None;
-    }
-    let lengths = read_lengths(&table[0..n])?;
+    let n = index_of(table, LF)?;
+    let lengths = read_lengths(&table[..n])?;
     let body = &table[n + 1..];
     let problem = front(body, lengths.problem)?;
     let body = &body[problem.len()..];

@@ -1,7 +1,8 @@
 -- A loop over numbers of four bytes each.
-use Rattle.std.proofs.Common.{◌≡◌, ℕ, suc, ◌+◌, ◌-◌, ◌/◌, ◌<◌, ◌≤◌, List, [], ◌∷◌, ◌++◌, length, take, drop, sym, refl, ap, ◌∙◌, arith, length-append}
-use Rattle.std.proofs.lemmas.List.{take_rest, append_assoc, append-nil}
+use Rattle.std.proofs.Common.{◌≡◌, ℕ, suc, ◌+◌, ◌-◌, ◌/◌, ◌<◌, ◌≤◌, List, [], ◌∷◌, ◌++◌, length, take, drop, Ok, Err, Result, refl, ap, ◌∙◌, arith, length-append}
+use Rattle.std.proofs.lemmas.List.{take_rest, append_assoc}
 use Rattle.text.specs.Lists.{each}
+use Rattle.text.specs.Rows.{Pushes}
 use Rattle.certificate.specs.Hinted.{word_in, words}
 
 words_first : (bs : List ℕ) → 4 ≤ length bs → words bs ≡ word_in bs ∷ words (drop 4 bs)
@@ -10,13 +11,6 @@ words_first (a ∷ []) l = absurd (omega arith)
 words_first (a ∷ b ∷ []) l = absurd (omega arith)
 words_first (a ∷ b ∷ c ∷ []) l = absurd (omega arith)
 words_first (a ∷ b ∷ c ∷ d ∷ bs) l = refl
-
-words_none : (bs : List ℕ) → length bs < 4 → words bs ≡ []
-words_none [] l = refl
-words_none (a ∷ []) l = refl
-words_none (a ∷ b ∷ []) l = refl
-words_none (a ∷ b ∷ c ∷ []) l = refl
-words_none (a ∷ b ∷ c ∷ d ∷ bs) l = absurd (omega arith)
 
 pub length-each : {X Y : Type 0} (f : X → Y) (xs : List X) → length (each f xs) ≡ length xs
 length-each f [] = refl
@@ -28,19 +22,16 @@ words_more f bs xs ys all w l e p h =
     let q : xs ++ each f (word_in bs ∷ words (drop 4 bs)) ≡ all = rw (words_first bs l) at h in
     rw (t, p, e) (append_assoc xs (f (word_in bs) ∷ []) (each f (words (drop 4 bs))) ∙ q)
 
-pub words_all : {T : Type 0} (f : ℕ → T) (bs : List ℕ) (xs all : List T) → length bs < 4 → xs ++ each f (words bs) ≡ all → xs ≡ all
-words_all f bs xs all l h = sym (append-nil xs) ∙ (rw (words_none bs l) at h)
-
--- a list with no place left has all of them
-pub words_fit : {T : Type 0} (f : ℕ → T) (bs cs : List ℕ) (xs ys : List T) (n : ℕ) → 4 ≤ length bs → length xs ≡ n → length ys + length (words cs) ≤ n → xs ++ each f (words bs) ≡ ys ++ each f (words cs) → ⊥
-words_fit f bs cs xs ys n l e m h =
+-- each of them has a place
+pub words_fit : {T : Type 0} (f : ℕ → T) (bs cs : List ℕ) (xs ys : List T) (n : ℕ) → 4 ≤ length bs → length ys + length (words cs) ≤ n → xs ++ each f (words bs) ≡ ys ++ each f (words cs) → length xs < n
+words_fit f bs cs xs ys n l m h =
     let q : xs ++ each f (word_in bs ∷ words (drop 4 bs)) ≡ ys ++ each f (words cs) = rw (words_first bs l) at h in
     let k = ap length q in
-    omega (arith, length-append xs (each f (word_in bs ∷ words (drop 4 bs))), length-append ys (each f (words cs)), length-each f (words cs), k)
+    omega (arith, length-append xs (each f (word_in bs ∷ words (drop 4 bs))), length-append ys (each f (words cs)), length-each f (words cs), length-each f (words (drop 4 bs)), k)
 
-pub each_same : (xs : List ℕ) → each (λ n. n) xs ≡ xs
-each_same [] = refl
-each_same (x ∷ xs) = ap (λ ys. x ∷ ys) (each_same xs)
+pub pushed : {T U F : Type 0} (n : ℕ) (xs ys : List T) (x : T) (o : Result U F) → length xs < n → Pushes n xs x ys o → ys ≡ xs ++ x ∷ []
+pushed n xs ys x (Ok u) l p = p.1
+pushed n xs ys x (Err e) l p = absurd (omega (arith, p.0))
 
 pub length-words : (bs : List ℕ) → length (words bs) ≡ length bs / 4
 length-words [] = refl

@@ -1,6 +1,6 @@
 -- The last four bytes decide which form is read.
-use Rattle.std.proofs.Common.{◌≡◌, ℕ, ◌-◌, ◌≤◌, Bool, true, false, cond, eqb, List, [], ◌∷◌, ◌++◌, length, get_or, take, drop, MatchBool, sym, refl, ap, ◌∙◌, subst, arith, length-append, w8, Fits}
-use Rattle.std.proofs.lemmas.List.{take_rest, append_assoc, append-nil, drop_at, drop-append-le, length_push}
+use Rattle.std.proofs.Common.{◌≡◌, ℕ, ◌-◌, ◌≤◌, Bool, true, false, cond, eqb, List, [], ◌∷◌, ◌++◌, length, get_or, drop, MatchBool, sym, refl, ap, ◌∙◌, subst, arith, length-append, w8, Fits}
+use Rattle.std.proofs.lemmas.List.{append_assoc, append-nil, drop_at, drop-append-le, length_push}
 use Rattle.std.proofs.lemmas.Bool.{ne_eqb, and_right}
 use Rattle.std.specs.Str.{bytes_eq}
 use Rattle.text.specs.Lists.{each_all, Each}
@@ -13,15 +13,6 @@ use Rattle.certificate.proofs.HintedHolding.{bytes_each, hinted_held}
 use Rattle.certificate.proofs.HintedWriting.{hinted_back, hinted_first}
 use Rattle.certificate.proofs.TextHolding.{textual_held}
 use Rattle.certificate.proofs.TextWriting.{text_back, text_first}
-
-told : (bs : List ℕ) (e : ℕ) (b : Bool) → e ≡ length bs - 4 → b ≡ bytes_eq (take (length bs - e) (drop e bs)) mark → is_hinted bs ≡ b
-told bs e b i s = rw (← i) (ap (λ t. bytes_eq t mark) (sym (take_rest bs e)) ∙ sym s)
-
-pub opens_hinted : (bs : List ℕ) (e : ℕ) (b : Bool) (s : Stream) → e ≡ length bs - 4 → b ≡ bytes_eq (take (length bs - e) (drop e bs)) mark → b ≡ true → s ≡ hinted bs → s ≡ certificate bs
-opens_hinted bs e b s i t y h = let q : is_hinted bs ≡ true = told bs e b i t ∙ y in rw q h
-
-pub opens_text : (bs : List ℕ) (e : ℕ) (b : Bool) (s : Stream) → e ≡ length bs - 4 → b ≡ bytes_eq (take (length bs - e) (drop e bs)) mark → b ≡ false → s ≡ textual bs → s ≡ certificate bs
-opens_text bs e b s i t y h = let q : is_hinted bs ≡ false = told bs e b i t ∙ y in rw q h
 
 pub opened_hinted : (bs : List ℕ) (s : Stream) → s ≡ certificate bs → HintedBack bs s
 opened_hinted bs s e ts h b =

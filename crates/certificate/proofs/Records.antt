@@ -53,12 +53,14 @@ stated_at bs i l =
     let e = stated_first (drop i bs) (omega (arith, length-drop i bs)) in
     rw z at (simp get_or-drop at e)
 
-pub trailer_read : (bs : List ℕ) (n : ℕ) → 8 ≤ length bs → n ≡ word (get_or bs (length bs - 8) 0) (get_or bs (length bs - 8 + 1) 0) (get_or bs (length bs - 8 + 2) 0) (get_or bs (length bs - 8 + 3) 0) → records (Some n) 0 (take (length bs - 8 - 0) bs) ≡ hinted bs
+pub trailer_read : (bs : List ℕ) (n : ℕ) → 8 ≤ length bs → n ≡ word (get_or bs (length bs - 8) 0) (get_or bs (length bs - 7) 0) (get_or bs (length bs - 6) 0) (get_or bs (length bs - 5) 0) → records (Some n) 0 (take (length bs - 8) bs) ≡ hinted bs
 trailer_read bs n l e =
-    let z : length bs - 8 - 0 ≡ length bs - 8 = omega arith in
     let p : ltb (length bs) 8 ≡ false = le-ltb (length bs) 8 l in
-    let s = stated_at bs (length bs - 8) (omega arith) in
-    rw (z, p, e, s) refl
+    let i : length bs - 8 + 1 ≡ length bs - 7 = omega arith in
+    let j : length bs - 8 + 2 ≡ length bs - 6 = omega arith in
+    let k : length bs - 8 + 3 ≡ length bs - 5 = omega arith in
+    let s = rw (i, j, k) at (stated_at bs (length bs - 8) (omega arith)) in
+    rw (p, e, s) refl
 
 pub trailer_cut : (bs : List ℕ) → length bs < 8 → unreadable 0 ≡ hinted bs
 trailer_cut bs l = let p : ltb (length bs) 8 ≡ true = lt-ltb (length bs) 8 l in rw p refl

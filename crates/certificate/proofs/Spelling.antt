@@ -12,15 +12,7 @@ pub record SoFar (all rest : List (List ℕ)) (room count : ℕ) (kept : List �
   pub zs : List ℤ
   pub whole : literals all ≡ option_map (λ ys. zs ++ ys) (literals rest)
   pub many : count ≡ length zs
-  pub few : count ≤ 512
   pub first : kept ≡ take room zs
-
-same_mapped : {X : Type 0} (o : Option X) → o ≡ option_map (λ x. x) o
-same_mapped None = refl
-same_mapped (Some x) = refl
-
-pub so_far_none : (all : List (List ℕ)) (room : ℕ) (kept : List ℤ) → kept ≡ [] → SoFar all all room 0 kept
-so_far_none all room kept e = record { zs = []; whole = same_mapped (literals all); many = refl; few = omega arith; first = e ∙ sym (take_all room [] (omega arith)) }
 
 literal_next : (z : ℤ) (w : List ℕ) (ws : List (List ℕ)) → Some z ≡ signed 7 w → is_zero z ≡ false → literals (w ∷ ws) ≡ option_map (λ zs. z ∷ zs) (literals ws)
 literal_next z w ws e f = rw (← e, f) refl
@@ -43,35 +35,31 @@ take_grown room z zs js (inr (e, l)) =
     let n : room ≤ length zs = omega (arith, length-take room zs) in
     e ∙ sym (take-append-le room zs (z ∷ []) n)
 
-pub so_far_more : (all ws : List (List ℕ)) (w : List ℕ) (room count : ℕ) (z : ℤ) (ks js : List ℤ) → SoFar all (w ∷ ws) room count ks → Some z ≡ signed 7 w → is_zero z ≡ false → (count ≡ 512 → ⊥) → Grown room z ks js → SoFar all ws room (count + 1) js
-so_far_more all ws w room count z ks js s e f m g =
-    let few = s.few in
-    let h : count < 512 = omega arith in
-    let zs = s.zs in
-    let many = s.many in
-    record {
-      zs = zs ++ z ∷ [];
-      whole = s.whole ∙ ap (option_map (λ ys. zs ++ ys)) (literal_next z w ws e f) ∙ mapped_more zs z (literals ws);
-      many = omega (arith, length_push zs z);
-      few = omega arith;
-      first = take_grown room z zs js (rw s.first at g);
-    }
-
-pub grown_by : {A E : Type 0} (r : Result A E) (room : ℕ) (z : ℤ) (ks js : List ℤ) → Pushes room ks z js r → Grown room z ks js
+grown_by : {A E : Type 0} (r : Result A E) (room : ℕ) (z : ℤ) (ks js : List ℤ) → Pushes room ks z js r → Grown room z ks js
 grown_by (Ok x) room z ks js p = inl (p.1, p.0)
 grown_by (Err x) room z ks js p = inr (p.1, p.0)
 
-pub nonzero : (z : ℤ) → (of_z w32 z ≡ 0 → ⊥) → is_zero z ≡ false
+nonzero : (z : ℤ) → (of_z w32 z ≡ 0 → ⊥) → is_zero z ≡ false
 nonzero (pos n) h = ne_eqb n 0 h
 nonzero (negsuc n) h = refl
 
-long_none : (zs : List ℤ) (z : ℤ) (o : Option (List ℤ)) → length zs ≡ 512 → then (option_map (λ ys. zs ++ ys) (option_map (λ ys. z ∷ ys) o)) (λ xs. cond (leb (length xs) 512) (Some xs) None) ≡ None
-long_none zs z None e = refl
-long_none zs z (Some ys) e =
-    let l : leb (length (zs ++ z ∷ ys)) 512 ≡ false = lt-leb _ _ (omega (arith, length-append zs (z ∷ ys))) in
+pub so_far_more : {A E : Type 0} (all rest ws : List (List ℕ)) (w : List ℕ) (room count : ℕ) (z : ℤ) (ks js : List ℤ) (r : Result A E) → SoFar all rest room count ks → rest ≡ w ∷ ws → Some z ≡ signed 7 w → (of_z w32 z ≡ 0 → ⊥) → Pushes room ks z js r → SoFar all ws room (count + 1) js
+so_far_more all rest ws w room count z ks js r s q e f p =
+    let zs = s.zs in
+    let many = s.many in
+    let next : literals rest ≡ option_map (λ ys. z ∷ ys) (literals ws) = ap literals q ∙ literal_next z w ws e (nonzero z f) in
+    record {
+      zs = zs ++ z ∷ [];
+      whole = s.whole ∙ ap (option_map (λ ys. zs ++ ys)) next ∙ mapped_more zs z (literals ws);
+      many = omega (arith, length_push zs z);
+      first = take_grown room z zs js (rw s.first at (grown_by r room z ks js p));
+    }
+
+long_none : (zs : List ℤ) (o : Option (List ℤ)) → 512 < length zs → then (option_map (λ ys. zs ++ ys) o) (λ xs. cond (leb (length xs) 512) (Some xs) None) ≡ None
+long_none zs None h = refl
+long_none zs (Some ys) h =
+    let l : leb (length (zs ++ ys)) 512 ≡ false = lt-leb _ _ (omega (arith, length-append zs ys)) in
     rw l refl
 
-pub so_far_long : (all ws : List (List ℕ)) (w : List ℕ) (room count : ℕ) (z : ℤ) (ks : List ℤ) → SoFar all (w ∷ ws) room count ks → Some z ≡ signed 7 w → is_zero z ≡ false → count ≡ 512 → clause all ≡ None
-so_far_long all ws w room count z ks s e f n =
-    let h = s.whole ∙ ap (option_map (λ ys. s.zs ++ ys)) (literal_next z w ws e f) in
-    rw h (long_none s.zs z (literals ws) (sym s.many ∙ n))
+pub so_far_long : (all rest : List (List ℕ)) (room count : ℕ) (ks : List ℤ) → SoFar all rest room count ks → 512 < count → clause all ≡ None
+so_far_long all rest room count ks s n = let m = s.many in rw s.whole (long_none s.zs (literals rest) (omega arith))

@@ -7,7 +7,7 @@ use Rattle.std.proofs.lemmas.Bool.{cond_both, and_parts, leb-true, ltb-true, ltb
 use Rattle.std.specs.Option.{option_map, option_or}
 use Rattle.std.specs.Fmt as written
 use Rattle.std.specs.Str.{bytes_eq}
-use Rattle.text.proofs.Cuts.{done_tells}
+use Rattle.text.proofs.Cuts.{pieces_not_none}
 use Rattle.text.specs.Decimal.{decimal, signed}
 use Rattle.text.specs.Lists.{each, each_all, Each}
 use Rattle.text.specs.Literals.{variable_of}
@@ -36,7 +36,7 @@ glued_none s (w ∷ ws) h = refl
 glued-pieces : (s : ℕ) (bs : List ℕ) → glued s (pieces s bs) ≡ bs
 glued-pieces s [] = refl
 glued-pieces s (b ∷ bs) =
-    let some = done_tells false s bs in
+    let some = pieces_not_none s bs in
     let ih = glued-pieces s bs in
     cond_both (eqb b s) ([] ∷ pieces s bs) (front b (pieces s bs)) (λ ps. glued s ps ≡ b ∷ bs)
     (λ t. let e : b ≡ s = eqb-true b s t in glued_none s (pieces s bs) some ∙ (rw (ih, e) refl))

@@ -3,7 +3,7 @@ use Rattle.std.proofs.Common.{◌≡◌, ℕ, suc, ◌+◌, ◌^◌, ◌<◌, �
 use Rattle.std.proofs.lemmas.List.{append_assoc, append-nil}
 use Rattle.std.proofs.lemmas.Bool.{eq-eqb, ne_eqb, le-leb, lt-ltb}
 use Rattle.std.specs.Fmt as written
-use Rattle.text.proofs.Cuts.{done_tells}
+use Rattle.text.proofs.Cuts.{pieces_not_none}
 use Rattle.text.proofs.Members.{each_append, each_weaker, each_each_all}
 use Rattle.text.specs.Lists.{each, each_all, Each}
 use Rattle.text.specs.Literals.{variable_of}
@@ -85,7 +85,7 @@ lines_front n (t ∷ ts) r h l =
     let rest = text_bytes ts ++ r in
     let a = append_assoc (line_bytes t ++ 10 ∷ []) (text_bytes ts) r ∙ append_assoc (line_bytes t) (10 ∷ []) rest in
     let b = pieces_word 10 (line_bytes t) rest (line_within t h.0) in
-    let c = lines_of_next n (line_bytes t) (pieces 10 rest) (done_tells false 10 rest) in
+    let c = lines_of_next n (line_bytes t) (pieces 10 rest) (pieces_not_none 10 rest) in
     let p : ltb n places ≡ true = lt-ltb n places (omega arith) in
     let ih = lines_front (suc n) ts r h.1 (omega arith) in
     let q : suc n + length ts ≡ n + suc (length ts) = omega arith in

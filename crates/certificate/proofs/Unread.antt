@@ -1,10 +1,10 @@
 -- The records that are left after the first.
-use Rattle.std.proofs.Common.{◌≡◌, ℕ, zero, suc, ◌+◌, ◌*◌, ◌<◌, ◌≤◌, true, false, cond, ◌&&◌, eqb, ltb, leb, List, [], ◌∷◌, length, take, drop, Some, None, Option, sym, refl, ap, subst, add-one, arith}
+use Rattle.std.proofs.Common.{◌≡◌, ℕ, zero, suc, ◌+◌, ◌*◌, ◌<◌, ◌≤◌, true, cond, ◌&&◌, eqb, ltb, leb, List, [], ◌∷◌, length, take, drop, Some, None, Option, sym, refl, ap, subst, add-one, arith}
 use Rattle.std.proofs.lemmas.List.{length-drop}
-use Rattle.std.proofs.lemmas.Bool.{cond_both, lt-ltb, le-ltb}
+use Rattle.std.proofs.lemmas.Bool.{cond_both, lt-ltb}
 use Rattle.std.specs.Option.{option_map}
 use Rattle.certificate.specs.Hinted.{short, counted, hinted_addition, addition_entry, deletion_entry, entry, records_in, records}
-use Rattle.certificate.specs.Stream.{Step, on_top, unreadable, or_unreadable, then, while_places}
+use Rattle.certificate.specs.Stream.{Step, on_top, or_unreadable, then, while_places}
 
 -- no more bytes are left than there were
 abbrev pub Within : {X : Type 0} → ℕ → Option (X × List ℕ) → Type 0
@@ -55,10 +55,6 @@ records_in_enough (suc k) (suc j) o n (x ∷ bs) a b = ap (while_places n) (pick
     pick : (e : Option (Step × List ℕ)) → Within (length bs) e → ((r : List ℕ) → length r ≤ k → length r ≤ j → records_in k o (suc n) r ≡ records_in j o (suc n) r) → or_unreadable (suc n) e (λ e. on_top (record { place = suc n; step = e.0 }) (records_in k o (suc n) e.1)) ≡ or_unreadable (suc n) e (λ e. on_top (record { place = suc n; step = e.0 }) (records_in j o (suc n) e.1))
     pick None w ih = refl
     pick (Some e) w ih = ap (on_top (record { place = suc n; step = e.0 })) (ih e.1 (omega arith) (omega arith))
-
-pub records_past : (o : Option ℕ) (n : ℕ) (bs : List ℕ) → 0 < length bs → 4294967294 ≤ n → records o n bs ≡ unreadable 4294967295
-records_past o n [] l h = absurd (omega arith)
-records_past o n (b ∷ bs) l h = let q : ltb n 4294967294 ≡ false = le-ltb n 4294967294 h in rw q refl
 
 pub records_first : (o : Option ℕ) (n : ℕ) (bs : List ℕ) (t : Step) (r : List ℕ) → n < 4294967294 → Some (t, r) ≡ entry bs → records o n bs ≡ on_top (record { place = n + 1; step = t }) (records o (n + 1) r)
 records_first o n [] t r l h = let z : ◌≡◌ {A = ℕ} 0 1 = cc in absurd (omega arith)

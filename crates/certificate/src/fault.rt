@@ -27,8 +27,7 @@ impl SourceFault {
         ensures { result ≡ (refusal self).place }
     {
         match self {
-            SourceFault::Form(place) => place,
-            SourceFault::TooMany(place) => place,
+            SourceFault::Form(place) | SourceFault::TooMany(place) => place,
         }
     }
 }

@@ -8,7 +8,6 @@ use crate::found::Found;
 use crate::hinted::HintedSource;
 use crate::source::Source;
 use crate::textual::TextSource;
-use text::same::same_bytes;
 
 /// The last bytes of a certificate in the hinted form.
 pub const HINT: [u8; 4] = *b"HINT";
@@ -21,6 +20,7 @@ pub enum Certificate<'a> {
 }
 
 /// Opens a certificate in the form that its last bytes say.
+#[tactic(auto, using(crate::proofs::Opening::opened_hinted, crate::proofs::Opening::opened_text, crate::proofs::Opening::opened_first, crate::proofs::Opening::opened_held))]
 pub fn open(bytes: &[u8]) -> Certificate<'_>
     ensures meaning { certificate_rest result ≡ certificate bytes.now }
     ensures hinted { HintedBack bytes.now (certificate_rest result) }
@@ -28,8 +28,7 @@ pub fn open(bytes: &[u8]) -> Certificate<'_>
     ensures first { CertificateFirst bytes.now (certificate_rest result) }
     ensures held { CertificateHeld bytes.now (certificate_rest result) }
 {
-    let end = bytes.len().saturating_sub(HINT.len());
-    if same_bytes(&bytes[end..], &HINT) {
+    if bytes.ends_with(&HINT) {
         return Certificate::Hinted(HintedSource::new(bytes));
     }
     Certificate::Text(TextSource::new(bytes))

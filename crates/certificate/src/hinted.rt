@@ -26,24 +26,17 @@ impl<'a> HintedSource<'a> {
         ensures back { HintedBack bytes.now (hinted_rest result) }
         ensures first { HintedFirst bytes.now (hinted_rest result) }
     {
-        if bytes.len() < 8 {
+        let [rest @ .., a, b, c, d, _, _, _, _] = bytes else {
             return HintedSource {
-                rest: &bytes[0..0],
+                rest: &[],
                 number: 0,
                 stated: None,
             };
-        }
-        let end = bytes.len() - 8;
-        let stated = u32::from_le_bytes([
-            bytes[end],
-            bytes[end + 1],
-            bytes[end + 2],
-            bytes[end + 3],
-        ]);
+        };
         HintedSource {
-            rest: &bytes[0..end],
+            rest,
             number: 0,
-            stated: Some(stated),
+            stated: Some(u32::from_le_bytes([*a, *b, *c, *d])),
         }
     }
 
@@ -51,10 +44,7 @@ impl<'a> HintedSource<'a> {
     fn end(&self) -> Result<Option<Found>, SourceFault>
         ensures { result ≡ answered (concluded self.now.stated self.now.number) }
     {
-        let Some(stated) = self.stated else {
-            return Err(SourceFault::Form(0));
-        };
-        if stated == self.number {
+        if self.stated == Some(self.number) {
             Ok(None)
         } else {
             Err(SourceFault::Form(0))
@@ -70,6 +60,7 @@ impl Source for HintedSource<'_> {
         literals: &mut [i32],
         hints: &mut [u32],
     ) -> Result<Option<Found>, SourceFault> {
+        // Each way out makes the memory zero for itself: to do it first would write all of it twice for each step.
         let bytes = self.rest;
         if bytes.is_empty() {
             blank(literals, hints);

@@ -12,7 +12,6 @@ use crate::record::LITERALS;
 use text::digits::{decimal, signed};
 use text::parts::Parts;
 use text::rows::Rows;
-use text::same::same_bytes;
 
 /// The most digits that a number has.
 const DIGITS: usize = 7;
@@ -32,7 +31,7 @@ fn deleted_number(line: &[u8]) -> Option<u32>
     let mark = parts.next_piece()?;
     let number = parts.next_piece()?;
     let zero = parts.next_piece()?;
-    if parts.is_done() && same_bytes(mark, b"d") && same_bytes(zero, b"0") {
+    if parts.is_done() && mark == b"d".as_slice() && zero == b"0".as_slice() {
         decimal(number, DIGITS)
     } else {
         None
@@ -46,22 +45,18 @@ fn push_literals(line: &[u8], rows: &mut Rows<'_, i32>) -> Option<usize>
     ensures same { Same rows.old rows.new }
 {
     let mut parts = Parts::whole(line, b' ');
-    let mut count = 0;
-    while let Some(part) = parts.next_piece() {
-        let literal = signed(part, DIGITS)?;
+    for count in 0..=usize::from(LITERALS) {
+        let literal = signed(parts.next_piece()?, DIGITS)?;
         if literal == 0 {
-            return if parts.is_done() { Some(count) } else { None };
-        }
-        if count == LITERALS as usize {
-            return None;
+            return parts.is_done().then_some(count);
         }
         let _ = rows.push(literal);
-        count += 1;
     }
     None
 }
 
 /// Puts the literals of a line into the rows, if they fit.
+#[tactic(auto, using(crate::proofs::LineAnswers::clause_over, crate::proofs::LineAnswers::clause_fits))]
 fn push_clause(line: &[u8], rows: &mut Rows<'_, i32>) -> Result<usize, Unread>
     requires { items rows.old ≡ [] }
     ensures answer { result ≡ clause_answer (room rows.old) (clause (pieces 32 line.now)) }

@@ -7,7 +7,8 @@ ghost use Rattle.certificate.specs.Reading.{Holds, memory_of, shape_in};
 
 use crate::found::Shape;
 use crate::memory::blank;
-use crate::words::{put_hints, put_literals};
+use crate::words::push_words;
+use text::rows::Rows;
 
 /// The most literals that a clause has.
 pub const LITERALS: u16 = 512;
@@ -34,6 +35,7 @@ pub struct Record<'a> {
 }
 
 /// The record that bytes begin with.
+#[tactic(auto, using(crate::proofs::Records::addition_found, crate::proofs::Records::deletion_found))]
 pub fn first_record(bytes: &[u8]) -> Option<Record<'_>>
     ensures { option_map entry_of result ≡ entry bytes.now }
 {
@@ -77,8 +79,10 @@ fn put_addition(
         blank(literals, hints);
         return None;
     }
-    put_literals(clause, literals);
-    put_hints(chain, hints);
+    let mut rows = Rows::new(literals, 0);
+    push_words(clause, &mut rows);
+    let mut rows = Rows::new(hints, 0);
+    push_words(chain, &mut rows);
     Some(Shape::AddHinted(n, k))
 }
 
@@ -95,6 +99,7 @@ fn addition(bytes: &[u8]) -> Option<Record<'_>>
 }
 
 /// The bytes of at most `most` numbers, after their count.
+#[tactic(auto, using(crate::proofs::Records::counted_cut))]
 fn counted_words(bytes: &[u8], most: u16) -> Option<Counted<'_>>
     ensures { option_map shown result ≡ counted most bytes.now }
 {

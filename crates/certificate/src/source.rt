@@ -8,6 +8,7 @@ use crate::found::Found;
 /// How many steps can have a place: the place after the last is still a number.
 pub const PLACES: u32 = 4_294_967_294;
 
+// The two memories stay two parameters: a struct of both would have to say in each contract that it holds the same memory, of the same length, as before, which a slice says by itself.
 pub trait Source {
     /// The steps still to come, and what ends them.
     ghost rest: { Self → Stream };

@@ -42,6 +42,7 @@ impl Source for TextSource<'_> {
         literals: &mut [i32],
         hints: &mut [u32],
     ) -> Result<Option<Found>, SourceFault> {
+        // Each way out makes the memory zero for itself: to do it first would write all of it twice for each step.
         let bytes = self.rest;
         if bytes.is_empty() {
             blank(literals, hints);
@@ -52,23 +53,17 @@ impl Source for TextSource<'_> {
             return Err(SourceFault::Form(u32::MAX));
         }
         let place = self.number + 1;
-        let n = index_of(bytes, LF);
-        if n == bytes.len() {
+        let Some(n) = index_of(bytes, LF) else {
             blank(literals, hints);
             return Err(SourceFault::Form(place));
-        }
-        match read_line(&bytes[0..n], literals, hints) {
-            Err(Unread::Form) => Err(SourceFault::Form(place)),
-            Err(Unread::TooMany) => {
-                self.number = place;
-                self.rest = &bytes[n + 1..];
-                Err(SourceFault::TooMany(place))
-            }
-            Ok(shape) => {
-                self.number = place;
-                self.rest = &bytes[n + 1..];
-                Ok(Some(Found { place, shape }))
-            }
-        }
+        };
+        let read = match read_line(&bytes[..n], literals, hints) {
+            Err(Unread::Form) => return Err(SourceFault::Form(place)),
+            Err(Unread::TooMany) => Err(SourceFault::TooMany(place)),
+            Ok(shape) => Ok(Some(Found { place, shape })),
+        };
+        self.number = place;
+        self.rest = &bytes[n + 1..];
+        read
     }
 }

@@ -1,11 +1,10 @@
 //! Numbers of four bytes each, the lowest byte first.
-ghost use Rattle.std.specs.Prelude.{◌≡◌, ℕ, ◌+◌, ◌≤◌, ◌++◌, length, pos};
+ghost use Rattle.std.specs.Prelude.{◌≡◌, ℕ, ◌+◌, ◌≤◌, ◌++◌, length};
 ghost use Rattle.std.specs.Int.{w32};
 ghost use Rattle.std.proofs.Common.{to_z};
 ghost use Rattle.text.specs.Lists.{each};
 ghost use Rattle.text.specs.Rows.{items, room, Same};
 ghost use Rattle.certificate.specs.Hinted.{words, word_in};
-ghost use Rattle.certificate.specs.Reading.{standing};
 
 use text::rows::Rows;
 
@@ -33,26 +32,8 @@ impl Word for i32 {
     }
 }
 
-/// Puts literals first in the memory, and zeros after them.
-pub(crate) fn put_literals(bytes: &[u8], memory: &mut [i32])
-    requires { length (words bytes.now) ≤ length memory.old }
-    ensures { memory.new ≡ standing (pos 0) (length memory.old) (each (to_z w32) (words bytes.now)) }
-{
-    let mut rows = Rows::new(memory, 0);
-    push_words(bytes, &mut rows);
-}
-
-/// Puts hints first in the memory, and zeros after them.
-pub(crate) fn put_hints(bytes: &[u8], memory: &mut [u32])
-    requires { length (words bytes.now) ≤ length memory.old }
-    ensures { memory.new ≡ standing 0 (length memory.old) (words bytes.now) }
-{
-    let mut rows = Rows::new(memory, 0);
-    push_words(bytes, &mut rows);
-}
-
-/// Puts the numbers after the rows.
-fn push_words<T: Word>(bytes: &[u8], rows: &mut Rows<'_, T>)
+/// Puts the numbers after the rows, where there is a place for each.
+pub(crate) fn push_words<T: Word>(bytes: &[u8], rows: &mut Rows<'_, T>)
     requires { length (items rows.old) + length (words bytes.now) ≤ room rows.old }
     ensures items { items rows.new ≡ items rows.old ++ each T.Word.meant (words bytes.now) }
     ensures same { Same rows.old rows.new }
@@ -60,9 +41,7 @@ fn push_words<T: Word>(bytes: &[u8], rows: &mut Rows<'_, T>)
     let mut rest = bytes;
     while let [a, b, c, d, more @ ..] = rest {
         let word = T::of_bytes([*a, *b, *c, *d]);
-        if rows.push(word).is_err() {
-            return;
-        }
+        let _ = rows.push(word);
         rest = more;
     }
 }

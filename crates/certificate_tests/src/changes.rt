@@ -23,26 +23,29 @@ impl Sums {
     }
 }
 
-const NONE: Sums = Sums {
-    ended: 0,
-    steps: 0,
-    places: 0,
-};
+/// The sums over each change of one byte.
+fn sums_of_changes<const N: usize>(bytes: [u8; N]) -> Sums {
+    let mut sums = Sums {
+        ended: 0,
+        steps: 0,
+        places: 0,
+    };
+    for at in 0..N {
+        for byte in 0..=255u8 {
+            let mut changed = bytes;
+            changed[at] = byte;
+            sums.add(&changed);
+        }
+    }
+    sums
+}
 
 const TEXT: [u8; 17] = *b"1 -23 0\nd 45 0\n0\n";
 
 #[test]
 fn text_changes(rt: HostRuntime) {
-    let mut sums = NONE;
-    for at in 0..17 {
-        for byte in 0..=255u8 {
-            let mut bytes = TEXT;
-            bytes[at] = byte;
-            sums.add(&bytes);
-        }
-    }
     assert_eq!(rt;
-        sums,
+        sums_of_changes(TEXT),
         Sums {
             ended: 77,
             steps: 3010,
@@ -53,16 +56,8 @@ fn text_changes(rt: HostRuntime) {
 
 #[test]
 fn hinted_changes(rt: HostRuntime) {
-    let mut sums = NONE;
-    for at in 0..39 {
-        for byte in 0..=255u8 {
-            let mut bytes = HINTED;
-            bytes[at] = byte;
-            sums.add(&bytes);
-        }
-    }
     assert_eq!(rt;
-        sums,
+        sums_of_changes(HINTED),
         Sums {
             ended: 5140,
             steps: 21293,

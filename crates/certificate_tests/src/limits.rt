@@ -23,8 +23,8 @@ fn added(count: usize) -> Result<Option<Found>, SourceFault> {
 /// `1 1 .. 1 0` and a line end, of 513 literals; 512 after the first.
 fn long_line() -> [u8; 1028] {
     let mut bytes = [b' '; 1028];
-    for i in 0..513 {
-        bytes[2 * i] = b'1';
+    for literal in bytes.chunks_exact_mut(2) {
+        literal[0] = b'1';
     }
     bytes[1026] = b'0';
     bytes[1027] = b'\n';

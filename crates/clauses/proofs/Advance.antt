@@ -1,9 +1,9 @@
 -- An engine that goes on by forced literals.
-use Rattle.std.proofs.Common.{◌≡◌, ℕ, ◌+◌, ◌<◌, Bool, List, length, set, ℤ, Some, None, Decides, Option, ap, ◌∙◌, arith, w32, SFits, to_z, of_z}
+use Rattle.std.proofs.Common.{◌≡◌, ℕ, ◌+◌, ◌<◌, Bool, List, length, set, ℤ, Some, None, Option, ap, ◌∙◌, arith, w32, SFits, to_z, of_z}
 use Rattle.std.proofs.lemmas.List.{length-set}
 use Rattle.std.proofs.lemmas.Int.{to_z-of_z}
 use Rattle.text.specs.Literals.{Clause, variable_of, positive}
-use Rattle.clauses.specs.Propagation.{Held, Refuted, Reached}
+use Rattle.clauses.specs.Propagation.{Reached}
 use Rattle.clauses.specs.Status.{status_from}
 use Rattle.clauses.specs.Cells.{values_of, unset_count}
 use Rattle.clauses.specs.Rows.{row_at, span}
@@ -12,13 +12,9 @@ use Rattle.clauses.specs.Engine.{Ready}
 use Rattle.clauses.specs.declared.scan.Status.TheVariants.{Forced}
 use Rattle.clauses.specs.declared.store.Store.{Store}
 use Rattle.clauses.specs.declared.trail.Trail.{Trail}
-use Rattle.clauses.proofs.Theory.{reached_none, refuted_on}
+use Rattle.clauses.proofs.Theory.{reached_none}
 use Rattle.clauses.proofs.Memory.{named_push}
 use Rattle.clauses.proofs.OneRow.{row_forced, row_literal}
-
--- what is decided of ys is decided of xs
-pub decided_before : (live : List Held) (xs ys : List (Option Bool)) (r : Bool) → Reached live (values_of xs) (values_of ys) → Decides r (Refuted live (values_of ys)) → Decides r (Refuted live (values_of xs))
-decided_before live xs ys r p d = ((λ e. p.back (d.0 e)), λ q. d.1 (refuted_on live (values_of xs) (values_of ys) p q))
 
 -- the literal that row k forces was made true, and put on the trail
 module _ (s : Store) (k : ℕ) (cl : Clause) (is : cl ≡ span s.literals.now (row_at s.rows.now k)) (lt : k < s.count) (xs : List (Option Bool)) (t : Trail) (ready : Ready s xs t) (l : ℤ) (fits : SFits w32 l) (forced : Forced l ≡ status_from (values_of xs) None cl) where

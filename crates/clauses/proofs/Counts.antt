@@ -1,8 +1,5 @@
 -- Counters of the literals that are not false.
-use Rattle.std.proofs.Common.{◌≡◌, ℕ, suc, ◌+◌, ◌<◌, ◌≤◌, Bool, true, false, cond, not, T, eqb, ◌⊎◌, [], ◌∷◌, length, get_or, take, ℤ, pos, negsuc, Some, None, Option, sym, refl, ap, ◌∙◌, inl, inr, arith, w32, SFits, to_z, of_z}
-use Rattle.std.proofs.lemmas.Int.{to_z-of_z}
-use Rattle.std.proofs.lemmas.List.{take_more, take_all}
-use Rattle.clauses.proofs.Tallies.{how_many_push}
+use Rattle.std.proofs.Common.{◌≡◌, ℕ, suc, ◌+◌, ◌<◌, ◌≤◌, Bool, true, false, cond, not, T, eqb, ◌⊎◌, [], ◌∷◌, get_or, ℤ, pos, negsuc, Some, None, Option, sym, refl, ap, inl, inr, arith}
 use Rattle.std.proofs.lemmas.Bool.{eq-eqb}
 use Rattle.text.specs.Literals.{Clause}
 use Rattle.clauses.specs.Propagation.{Values, value, flip, is_unset, is_false, is_true, satisfied, unset_in, set_true}
@@ -116,12 +113,3 @@ open_settled f g t low c gap two = go (open_kept f g t low gap c)
     go (inl s) = inl (inl s)
     go (inr (inl w)) = inr w
     go (inr (inr h)) = inl (inr (omega arith))
-
--- a loop's step: the literal at i, which is not false where b
-pub count_more : (f : Values) (c : Clause) (i n n' : ℕ) (b : Bool) → i < length c → SFits w32 (get_or c i (pos 0)) → b ≡ not (is_false (value f (to_z w32 (of_z w32 (get_or c i (pos 0)))))) → n ≡ non_false f (take i c) → n' ≡ n + cond b 1 0 → n' ≡ non_false f (take (i + 1) c)
-count_more f c i n n' b lt fits e h k =
-    let z : b ≡ not (is_false (value f (get_or c i (pos 0)))) = e ∙ ap (λ (m : ℤ). not (is_false (value f m))) (to_z-of_z w32 (get_or c i (pos 0)) fits) in
-    rw (take_more c i (pos 0) lt, how_many_push (λ m. not (is_false (value f m))) (take i c) (get_or c i (pos 0)), ← z, ← h) k
-
-pub count_all : (f : Values) (c : Clause) (i n : ℕ) → length c ≤ i → n ≡ non_false f (take i c) → n ≡ non_false f c
-count_all f c i n le h = rw (take_all i c le) at h

@@ -5,15 +5,22 @@ use Rattle.std.proofs.lemmas.List.{get_or-set_same, get_or-set_other, length-set
 use Rattle.text.specs.Literals.{variable_of, positive}
 use Rattle.clauses.specs.Rows.{row_at}
 use Rattle.clauses.specs.Codes.{code_of}
-use Rattle.clauses.specs.Linked.{Falling, Linked}
+use Rattle.clauses.specs.Links.{Falling}
+use Rattle.clauses.specs.Linked.{Linked}
 use Rattle.clauses.specs.Events.{clause_at, Listed, Fit, Indexed, Entering}
 use Rattle.clauses.specs.declared.store.Store.{Store}
 use Rattle.clauses.specs.declared.index.Index.{Index}
+use Rattle.clauses.proofs.Memory.{sound_of}
 use Rattle.clauses.proofs.OneRow.{row_named}
 use Rattle.std.proofs.lemmas.Bool.{cases_eq, eq-eqb, ne_eqb}
 use Rattle.clauses.specs.Counting.{Tally, none, hits}
 use Rattle.clauses.proofs.Tallies.{tally_kept, tally_new, how_many_push}
 use Rattle.clauses.proofs.Links.{on_bound, on_enter, on_new, below_push}
+
+-- an index's lists lead from entry to entry
+pub linked_of : (x : Index) → Linked x
+linked_of x =
+    record { small = x.small; chained = x.chained; owned = x.owned; listed = x.listed; begins = x.begins; falling = x.falling }
 
 pub clause_long : (s : Store) (k : ℕ) → length (clause_at s k) ≤ (row_at s.rows.now k).len
 clause_long s k = simp length-take (omega arith)
@@ -40,15 +47,15 @@ code_bound l = go (positive l)
 
 pub code_fits : (s : Store) (x : Index) (k j : ℕ) → Fit s x → k < s.count → j < length (clause_at s k) → code_of (get_or (clause_at s k) j (pos 0)) < x.lists
 code_fits s x k j fit lt h =
-    let a : variable_of (get_or (clause_at s k) j (pos 0)) - 1 < s.variables = row_named s k (clause_at s k) refl lt fit.sound j h in
+    let a : variable_of (get_or (clause_at s k) j (pos 0)) - 1 < s.variables = row_named s k (clause_at s k) refl lt (sound_of s) j h in
     omega (arith, code_bound (get_or (clause_at s k) j (pos 0)), fit.heads)
 
 -- there is room for one more entry
 pub entry_fits : (s : Store) (x₀ x : Index) (k i : ℕ) → k < s.count → i < length (clause_at s k) → Entering s x₀ x k i → (x.used < length x.next.now) × (x.used < length x.owners.now) × (x.used + 1 < 2 ^ 32)
 entry_fits s x₀ x k i lt h e =
-    let a : (row_at s.rows.now k).start + (row_at s.rows.now k).len ≤ s.filled = e.fit.sound.spans k lt in
+    let a : (row_at s.rows.now k).start + (row_at s.rows.now k).len ≤ s.filled = s.spans k lt in
     let b : length (clause_at s k) ≤ (row_at s.rows.now k).len = clause_long s k in
-    (omega (arith, e.room, e.fit.next), omega (arith, e.room, e.fit.owners), omega (arith, e.room, e.fit.sound.small))
+    (omega (arith, e.room, e.fit.next), omega (arith, e.room, e.fit.owners), omega (arith, e.room, s.within, s.small))
 
 pub entering_none : (s : Store) (x : Index) (k : ℕ) → k < s.count → Fit s x → Indexed s x k → Entering s x x k 0
 entering_none s x k lt fit h =
@@ -68,10 +75,10 @@ some_more next owners heads n code k c m f nl ol cl le t = go (cases_eq code c)
         let a : m + cond (eqb code c) 1 0 ≡ m = rw (ne_eqb code c q) (add-zero m) in
         rw a (tally_kept next owners heads n code k f nl ol cl k c m le t)
 
-pub entering_more : (s : Store) (x₀ x y : Index) (k i code : ℕ) → k < s.count → i < length (clause_at s k) → code ≡ code_of (get_or (clause_at s k) i (pos 0)) → Linked y → y.used ≡ x.used + 1 → y.lists ≡ x.lists → y.heads.now ≡ set x.heads.now code (x.used + 1) → y.next.now ≡ set x.next.now x.used (get_or x.heads.now code 0) → y.owners.now ≡ set x.owners.now x.used k → Entering s x₀ x k i → Entering s x₀ y k (i + 1)
-entering_more s x₀ x y k i code lt h is linked used lists heads next owners e =
+pub entering_more : (s : Store) (x₀ x y : Index) (k i code : ℕ) → k < s.count → i < length (clause_at s k) → code ≡ code_of (get_or (clause_at s k) i (pos 0)) → y.used ≡ x.used + 1 → y.lists ≡ x.lists → y.heads.now ≡ set x.heads.now code (x.used + 1) → y.next.now ≡ set x.next.now x.used (get_or x.heads.now code 0) → y.owners.now ≡ set x.owners.now x.used k → Entering s x₀ x k i → Entering s x₀ y k (i + 1)
+entering_more s x₀ x y k i code lt h is used lists heads next owners e =
     let room = entry_fits s x₀ x k i lt h e in
-    let ok : Linked x = e.fit.linked in
+    let ok : Linked x = linked_of x in
     let cl : code < x.lists = rw is (code_fits s x k i e.fit lt h) in
     let hl : code < length x.heads.now = omega (arith, ok.listed) in
     let kept : (c r : ℕ) → c < x.lists → Listed x c r → Listed y c r = listed_kept x y code k ok cl room.0 room.1 heads next owners in
@@ -79,7 +86,7 @@ entering_more s x₀ x y k i code lt h is linked used lists heads next owners e 
     let nn : length y.next.now ≡ length x.next.now = ap length next ∙ length-set _ _ _ in
     let on : length y.owners.now ≡ length x.owners.now = ap length owners ∙ length-set _ _ _ in
     record {
-      fit = record { sound = e.fit.sound; linked = linked; next = omega (arith, e.fit.next); owners = omega (arith, e.fit.owners); heads = omega (arith, e.fit.heads); few = e.fit.few };
+      fit = record { linked = linked_of y; next = omega (arith, e.fit.next); owners = omega (arith, e.fit.owners); heads = omega (arith, e.fit.heads) };
       same = record { heads = hn ∙ e.same.heads; next = nn ∙ e.same.next; owners = on ∙ e.same.owners };
       whole = λ r rk j jl. kept _ r (code_fits s x r j e.fit (omega arith) jl) (e.whole r rk j jl);
       part = below_more (λ j. Listed y (code_of (get_or (clause_at s k) j (pos 0))) k) i (λ j ji. kept _ k (code_fits s x k j e.fit lt (omega arith)) (e.part j ji)) (subst (λ (z : ℕ). Listed y z k) is (listed_new x y code k ok cl room.0 room.1 heads next owners));
@@ -94,7 +101,7 @@ entering_all s x₀ x k i lt le ge e =
     record {
       whole = below_more (λ r. (j : ℕ) → j < length (clause_at s r) → Listed x (code_of (get_or (clause_at s r) j (pos 0))) r) k e.whole (λ j jl. e.part j (omega arith));
       owned = e.owned;
-      room = λ r kr rc. omega (arith, e.fit.sound.ordered k r (omega arith) rc, clause_long s k, e.room);
+      room = λ r kr rc. omega (arith, s.ordered k r (omega arith) rc, clause_long s k, e.room);
       tallied = below_more (λ r. (code : ℕ) → code < x.lists → Tally x.next.now x.owners.now r (get_or x.heads.now code 0) (hits code (clause_at s r))) k e.tallied (λ code cl. rw (take_all i (clause_at s k) ge) at (e.some code cl));
     }
 

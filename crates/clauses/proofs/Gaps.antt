@@ -1,18 +1,18 @@
 -- A store whose gaps are being closed.
-use Rattle.std.proofs.Common.{◌≡◌, ℕ, ◌+◌, ◌-◌, ◌<◌, ◌≤◌, true, false, ◌⊎◌, List, [], ◌∷◌, ◌++◌, length, get_or, take, drop, set, ℤ, pos, sym, refl, ap, ◌∙◌, subst, inl, inr, append-nil, arith}
-use Rattle.std.proofs.lemmas.List.{length-set, length-take-le, length-drop, length_push, take_more, take-take, take-append-drop, drop-take, drop-set-lt, drop-drop, get_or-take, get_or-drop}
+use Rattle.std.proofs.Common.{◌≡◌, ℕ, ◌+◌, ◌-◌, ◌<◌, ◌≤◌, true, false, ◌⊎◌, List, [], ◌∷◌, ◌++◌, length, get_or, take, drop, set, ℤ, sym, refl, ap, ◌∙◌, inl, inr, append-nil, arith}
+use Rattle.std.proofs.lemmas.List.{length-set, length-take-le, length-drop, length_push, take_more, drop-set-lt, drop-drop, get_or-drop}
 use Rattle.std.proofs.lemmas.Bool.{cases_lt}
 use Rattle.text.specs.Literals.{Clause}
 use Rattle.clauses.specs.ClauseBase.{literal_count}
-use Rattle.clauses.specs.Rows.{no_row, row_at, span, held_in, Under}
-use Rattle.clauses.specs.Stored.{held, Sound}
-use Rattle.clauses.specs.Growth.{Copying, Copied, Sealed}
+use Rattle.clauses.specs.Rows.{no_row, row_at, span, held_in, Under, Named}
+use Rattle.clauses.specs.Stored.{held}
+use Rattle.clauses.specs.Growth.{Copied, Sealed}
 use Rattle.clauses.specs.Closing.{Closed, Closing}
 use Rattle.clauses.specs.declared.row.Row.{Row}
 use Rattle.clauses.specs.declared.store.Store.{Store}
 use Rattle.clauses.proofs.Keeping.{held_append, held_first, count_append}
-use Rattle.clauses.proofs.Memory.{row_speaks}
-use Rattle.clauses.proofs.Growing.{Appended, appended_of, appended_sound, appended_held, dense_push, row_old, row_new}
+use Rattle.clauses.proofs.Memory.{sound_of, row_speaks}
+use Rattle.clauses.proofs.Growing.{Appended, appended_of, appended_held, copied_named, dense_push, row_old, row_new}
 
 -- lists that agree from n on
 pub drop_on : {X : Type 0} (xs ys : List X) (n m : ℕ) → n ≤ m → drop n xs ≡ drop n ys → drop m xs ≡ drop m ys
@@ -25,70 +25,41 @@ get_d_on xs ys n k d le h =
     let e : n + (k - n) ≡ k = omega arith in
     ap (λ (z : ℕ). get_or xs z d) (sym e) ∙ sym (get_or-drop n xs (k - n) d) ∙ ap (λ (zs : List _). get_or zs (k - n) d) h ∙ get_or-drop n ys (k - n) d ∙ ap (λ (z : ℕ). get_or ys z d) e
 
-take_parts : {X : Type 0} (xs : List X) (f n : ℕ) → take (f + n) xs ≡ take f xs ++ take n (drop f xs)
-take_parts xs f n =
-    sym (take-append-drop f (take (f + n) xs)) ∙ rw (take-take f (f + n) xs (omega arith), drop-take f n xs)
-
 pub stretch_long : (lits : List ℤ) (start len : ℕ) → start + len ≤ length lits → length (take len (drop start lits)) ≡ len
 stretch_long lits start len h = length-take-le len (drop start lits) (omega (arith, length-drop start lits))
 
--- literals that already stand where they should
-pub copied_here : (s : Store) (start len : ℕ) → s.filled ≡ start → start + len ≤ length s.literals.now → Copied s s (take len (drop start s.literals.now))
-copied_here s start len e h =
-    let lits = s.literals.now in
-    let n : length (take len (drop start lits)) ≡ len = stretch_long lits start len h in
-    record { rows = refl; count = refl; filled = refl; variables = refl; next = refl; long = refl; copied = rw (e, n, take-take len len (drop start lits) (omega arith)) (take_parts lits start len); rest = refl }
-
--- the literal at start + i, read where the first i were copied
-pub copy_reads : (s t : Store) (start len i : ℕ) → s.filled ≤ start → i < len → Copying s t (take len (drop start s.literals.now)) i → get_or t.literals.now (start + i) (pos 0) ≡ get_or (take len (drop start s.literals.now)) i (pos 0)
-copy_reads s t start len i le lt h =
-    get_d_on t.literals.now s.literals.now (s.filled + i) (start + i) (pos 0) (omega arith) h.rest
-    ∙ sym (get_or-take len (drop start s.literals.now) i (pos 0) lt ∙ get_or-drop start s.literals.now i (pos 0))
-
-pub copied_done : (s t : Store) (start len i : ℕ) → start + len ≤ length s.literals.now → i ≡ len → Copying s t (take len (drop start s.literals.now)) i → Copied s t (take len (drop start s.literals.now))
-copied_done s t start len i h e k =
-    let P : ℕ → Type 0 = λ n. Copying s t (take len (drop start s.literals.now)) n in
-    subst P (e ∙ sym (stretch_long s.literals.now start len h)) k
-
-pub closing_none : (s t : Store) → Sound s → t.rows.now ≡ s.rows.now → t.literals.now ≡ s.literals.now → t.count ≡ 0 → t.filled ≡ 0 → t.variables ≡ s.variables → t.next ≡ s.next → Closing s.rows.now s.literals.now s.count s.next s.variables t 0
-closing_none s t ok r l k f v n =
-    record {
-      sound = record { counted = omega arith; small = omega (arith, ok.small); within = omega arith; spans = λ j h. absurd (omega arith); ordered = λ i j h q. absurd (omega arith); rising = λ i j h q. absurd (omega arith); under = λ j h. absurd (omega arith); named = λ j h. absurd (omega arith) };
-      behind = rw r;
-      beyond = rw l;
-      long = ap length r;
-      wide = ap length l;
-      variables' = v;
-      next' = n;
-      few = omega arith;
-      above = λ j h q. omega arith;
-      lower = λ i j h q w. absurd (omega arith);
-      clauses = rw k;
-      dense = λ j h. absurd (omega arith);
-      count = rw k;
-      filled = rw (k, f);
-    }
-
 -- the row at k is next
-module _ (s t : Store) (k : ℕ) (ok : Sound s) (lt : k < s.count) (cl : Closing s.rows.now s.literals.now s.count s.next s.variables t k) where
+module _ (s t : Store) (k : ℕ) (lt : k < s.count) (cl : Closing s.rows.now s.literals.now s.count s.next s.variables t k) where
   pub row_kept : row_at t.rows.now k ≡ row_at s.rows.now k
   row_kept = get_d_on t.rows.now s.rows.now t.count k no_row cl.few cl.behind
 
   pub row_above : (t.filled ≤ (row_at t.rows.now k).start) × ((row_at t.rows.now k).start + (row_at t.rows.now k).len ≤ s.filled)
-  row_above = rw row_kept (cl.above k (omega arith) lt, ok.spans k lt)
+  row_above = rw row_kept (cl.above k (omega arith) lt, s.spans k lt)
 
   same_span : span t.literals.now (row_at t.rows.now k) ≡ span s.literals.now (row_at s.rows.now k)
   same_span = rw row_kept (ap (take (row_at s.rows.now k).len) (drop_on t.literals.now s.literals.now t.filled (row_at s.rows.now k).start (cl.above k (omega arith) lt) cl.beyond))
 
+  -- what its clause needs to be sealed behind those brought down
+  pub next_under : Under t.rows.now t.count (row_at t.rows.now k).number
+  next_under = rw row_kept (λ i h. cl.lower i k h (omega arith) lt)
+
+  pub next_low : (row_at t.rows.now k).number < t.next
+  next_low = rw row_kept (omega (arith, s.under k lt, cl.next'))
+
+  pub next_named : (v : Store) → Copied t v (take (row_at t.rows.now k).len (drop (row_at t.rows.now k).start t.literals.now)) → Named v.literals.now (v.filled + (row_at t.rows.now k).len) v.variables
+  next_named v cp =
+      let r = row_at t.rows.now k in
+      let n : length (span t.literals.now r) ≡ r.len = stretch_long t.literals.now r.start r.len (omega (arith, row_above.1, s.within, cl.wide)) in
+      copied_named t v (span t.literals.now r) r.len (sym n) cp (rw (same_span, cl.variables') (row_speaks s k (sound_of s) lt))
+
   held_next : held_in s.literals.now (take (k + 1) s.rows.now) ≡ held_in s.literals.now (take k s.rows.now) ++ held_in s.literals.now (row_at s.rows.now k ∷ [])
-  held_next = ap (held_in s.literals.now) (take_more s.rows.now k no_row (omega (arith, ok.counted))) ∙ held_append s.literals.now (take k s.rows.now) (row_at s.rows.now k ∷ [])
+  held_next = ap (held_in s.literals.now) (take_more s.rows.now k no_row (omega (arith, s.counted))) ∙ held_append s.literals.now (take k s.rows.now) (row_at s.rows.now k ∷ [])
 
   pub closing_dead : (row_at t.rows.now k).live ≡ false → Closing s.rows.now s.literals.now s.count s.next s.variables t (k + 1)
   closing_dead dead =
       let d : (row_at s.rows.now k).live ≡ false = ap (λ (r : Row). r.live) (sym row_kept) ∙ dead in
       let none : held_in s.literals.now (row_at s.rows.now k ∷ []) ≡ [] = held_first s.literals.now (row_at s.rows.now k) [] ∙ rw d in
       record {
-        sound = cl.sound;
         behind = cl.behind;
         beyond = cl.beyond;
         long = cl.long;
@@ -108,20 +79,18 @@ module _ (s t : Store) (k : ℕ) (ok : Sound s) (lt : k < s.count) (cl : Closing
   closing_live v u live cp se =
       let r = row_at t.rows.now k in
       let c : Clause = span t.literals.now r in
-      let n : length c ≡ r.len = stretch_long t.literals.now r.start r.len (omega (arith, row_above.1, ok.within, cl.wide)) in
+      let n : length c ≡ r.len = stretch_long t.literals.now r.start r.len (omega (arith, row_above.1, s.within, cl.wide)) in
       let a : Appended t u r.number c = appended_of t v v u r.number r.len c (sym n) cp refl refl refl refl refl se in
-      let space : t.count < length t.rows.now = omega (arith, cl.few, ok.counted, cl.long) in
-      let fits : t.filled + length c ≤ length t.literals.now = omega (arith, row_above.0, row_above.1, ok.within, cl.wide) in
-      let up : Under t.rows.now t.count r.number = rw row_kept (λ i h. cl.lower i k h (omega arith) lt) in
+      let space : t.count < length t.rows.now = omega (arith, cl.few, s.counted, cl.long) in
+      let fits : t.filled + length c ≤ length t.literals.now = omega (arith, row_above.0, row_above.1, s.within, cl.wide) in
       let l : (row_at s.rows.now k).live ≡ true = ap (λ (q : Row). q.live) (sym row_kept) ∙ live in
       let num : r.number ≡ (row_at s.rows.now k).number = ap (λ (q : Row). q.number) row_kept in
       let nx : u.next ≡ s.next = se.next ∙ cp.next ∙ cl.next' in
-      let h : held u ≡ held t ++ record { number = r.number; literals = c } ∷ [] = appended_held t u r.number c cl.sound space fits a in
+      let h : held u ≡ held t ++ record { number = r.number; literals = c } ∷ [] = appended_held t u r.number c space a in
       let lh : length (held u) ≡ length (held t) + 1 = ap length h ∙ length_push (held t) (record { number = r.number; literals = c }) in
       let fh : literal_count (held u) ≡ literal_count (held t) + (length c + 0) = ap literal_count h ∙ count_append (held t) (record { number = r.number; literals = c } ∷ []) in
       let one : held_in s.literals.now (row_at s.rows.now k ∷ []) ≡ record { number = r.number; literals = c } ∷ [] = held_first s.literals.now (row_at s.rows.now k) [] ∙ rw (l, num, same_span) in
       record {
-        sound = appended_sound t u r.number c cl.sound space fits a (omega (arith, row_above.0, row_above.1, ok.small)) (rw (same_span, cl.variables') (row_speaks s k ok lt)) up (omega (arith, num, ok.under k lt)) (omega (arith, cl.next'));
         behind = rw (a.rows, a.count) (drop-set-lt (t.count + 1) t.rows.now t.count _ (omega arith) ∙ drop_on t.rows.now s.rows.now t.count (t.count + 1) (omega arith) cl.behind);
         beyond = rw (a.filled, se.literals) (cp.rest ∙ drop_on t.literals.now s.literals.now t.filled (t.filled + length c) (omega arith) cl.beyond);
         long = ap length a.rows ∙ length-set _ _ _ ∙ cl.long;
@@ -129,7 +98,7 @@ module _ (s t : Store) (k : ℕ) (ok : Sound s) (lt : k < s.count) (cl : Closing
         variables' = a.variables ∙ cl.variables';
         next' = nx;
         few = omega (arith, a.count, cl.few);
-        above = λ j q w. omega (arith, a.filled, cl.above k (omega arith) lt, ok.ordered k j (omega arith) w, ap (λ (z : Row). z.len) row_kept);
+        above = λ j q w. omega (arith, a.filled, cl.above k (omega arith) lt, s.ordered k j (omega arith) w, ap (λ (z : Row). z.len) row_kept);
         lower = λ i j q w z. rw a.rows (number-below u c i j a.count space q w z (cases_lt i t.count) num);
         clauses = h ∙ rw (cl.clauses, held_next, one);
         dense = rw (a.rows, a.count) (dense_push t.rows.now t.count _ space cl.dense refl);
@@ -139,12 +108,11 @@ module _ (s t : Store) (k : ℕ) (ok : Sound s) (lt : k < s.count) (cl : Closing
     where
       number-below : (u : Store) (c : Clause) (i j : ℕ) → u.count ≡ t.count + 1 → t.count < length t.rows.now → i < u.count → k + 1 ≤ j → j < s.count → (i < t.count) ⊎ (t.count ≤ i) → (row_at t.rows.now k).number ≡ (row_at s.rows.now k).number → (row_at (set t.rows.now t.count (record { number = (row_at t.rows.now k).number; start = t.filled; len = length c; live = true })) i).number < (row_at s.rows.now j).number
       number-below u c i j e space q w z (inl h) num = rw (row_old t.rows.now t.count _ space i h) (cl.lower i j h (omega arith) z)
-      number-below u c i j e space q w z (inr h) num = let is : i ≡ t.count = omega arith in rw (is, row_new t.rows.now t.count _ space) (omega (arith, num, ok.rising k j (omega arith) z))
+      number-below u c i j e space q w z (inr h) num = let is : i ≡ t.count = omega arith in rw (is, row_new t.rows.now t.count _ space) (omega (arith, num, s.rising k j (omega arith) z))
 
 pub closing_all : (s t : Store) (k : ℕ) → k ≡ s.count → Closing s.rows.now s.literals.now s.count s.next s.variables t k → Closed s t
 closing_all s t k e cl =
     record {
-      sound = cl.sound;
       kept = record { rows = cl.long; literals = cl.wide; variables = cl.variables' };
       next = cl.next';
       clauses = rw e at cl.clauses;

@@ -1,13 +1,13 @@
 -- A store with one more clause.
-use Rattle.std.proofs.Common.{◌≡◌, ℕ, ◌+◌, ◌-◌, ◌^◌, ◌<◌, ◌≤◌, true, ◌≢◌, ◌⊎◌, List, [], ◌∷◌, ◌++◌, length, get_or, take, drop, set, ℤ, pos, sym, refl, ap, ◌∙◌, inl, inr, append_assoc, arith, below_more}
-use Rattle.std.proofs.lemmas.List.{get_or-set_same, get_or-set_other, length-set, length-take-le, take_more, take_more_set, take_all, take-take, take-append-le, drop-take, drop_at, drop-set-lt, drop-drop, get_or-take, get_or_append_left, get_or-append_right}
+use Rattle.std.proofs.Common.{◌≡◌, ℕ, ◌+◌, ◌-◌, ◌<◌, ◌≤◌, true, ◌≢◌, ◌⊎◌, List, [], ◌∷◌, ◌++◌, length, get_or, take, drop, set, ℤ, pos, sym, ap, ◌∙◌, inl, inr, arith, below_more}
+use Rattle.std.proofs.lemmas.List.{get_or-set_same, get_or-set_other, length-take-le, take_more_set, take-take, take-append-le, drop-take, drop_at, get_or-take, get_or_append_left, get_or-append_right}
 use Rattle.std.proofs.ByRecursion.{All-from_get_or}
 use Rattle.std.proofs.lemmas.Bool.{cases_lt}
 use Rattle.std.specs.List.{AllByRecursion}
 use Rattle.text.specs.Literals.{Clause, variable_of}
-use Rattle.clauses.specs.Rows.{no_row, row_at, span, held_in, Spans, Rising, Named, Ordered, Under, Dense}
-use Rattle.clauses.specs.Stored.{held, Sound}
-use Rattle.clauses.specs.Growth.{Speaks, Copying, Copied, Sealed}
+use Rattle.clauses.specs.Rows.{no_row, row_at, span, held_in, Spans, Named, Dense}
+use Rattle.clauses.specs.Stored.{held}
+use Rattle.clauses.specs.Growth.{Speaks, Copied, Sealed}
 use Rattle.clauses.specs.declared.row.Row.{Row}
 use Rattle.clauses.specs.declared.store.Store.{Store}
 use Rattle.clauses.proofs.Keeping.{held_append, held_same}
@@ -20,50 +20,9 @@ module _ (rows : List Row) (n : ℕ) (r : Row) (lt : n < length rows) where
   pub row_new : row_at (set rows n r) n ≡ r
   row_new = get_or-set_same rows n r no_row lt
 
-  spans_push : (f g : ℕ) → Spans rows n f → f ≤ g → r.start + r.len ≤ g → Spans (set rows n r) (n + 1) g
-  spans_push f g h le here =
-      below_more (λ k. (row_at (set rows n r) k).start + (row_at (set rows n r) k).len ≤ g) n
-      (λ k kn. rw (row_old k kn) (omega (arith, h k kn)))
-      (rw row_new here)
-
-  ordered_push : (f : ℕ) → Ordered rows n → Spans rows n f → f ≤ r.start → Ordered (set rows n r) (n + 1)
-  ordered_push f h s le j k jk kn = go (cases_lt k n)
-    where
-      go : (k < n) ⊎ (n ≤ k) → (row_at (set rows n r) j).start + (row_at (set rows n r) j).len ≤ (row_at (set rows n r) k).start
-      go (inl q) = rw (row_old j (omega arith), row_old k q) (h j k jk q)
-      go (inr q) = let e : k ≡ n = omega arith in rw (e, row_new, row_old j (omega arith)) (omega (arith, s j (omega arith)))
-
-  rising_push : Rising rows n → Under rows n r.number → Rising (set rows n r) (n + 1)
-  rising_push h up j k jk kn = go (cases_lt k n)
-    where
-      go : (k < n) ⊎ (n ≤ k) → (row_at (set rows n r) j).number < (row_at (set rows n r) k).number
-      go (inl q) = rw (row_old j (omega arith), row_old k q) (h j k jk q)
-      go (inr q) = let e : k ≡ n = omega arith in rw (e, row_new, row_old j (omega arith)) (up j (omega arith))
-
-  under_push : (m : ℕ) → Under rows n m → r.number < m → Under (set rows n r) (n + 1) m
-  under_push m h here =
-      below_more (λ k. (row_at (set rows n r) k).number < m) n (λ k kn. rw (row_old k kn) (h k kn)) (rw row_new here)
-
   pub dense_push : Dense rows n → r.live ≡ true → Dense (set rows n r) (n + 1)
   dense_push h here =
       below_more (λ k. (row_at (set rows n r) k).live ≡ true) n (λ k kn. rw (row_old k kn) (h k kn)) (rw row_new here)
-
--- one more literal is copied
-pub copied_more : (old now : List ℤ) (c : Clause) (f i : ℕ) (l : ℤ) → f + i < length now → i < length c → l ≡ get_or c i (pos 0) → take (f + i) now ≡ take f old ++ take i c → take (f + (i + 1)) (set now (f + i) l) ≡ take f old ++ take (i + 1) c
-copied_more old now c f i l lt il is h =
-    let e : f + (i + 1) ≡ (f + i) + 1 = omega arith in
-    rw (e, is, take_more_set now (f + i) (get_or c i (pos 0)) lt, h, append_assoc (take f old) (take i c) (get_or c i (pos 0) ∷ []), ← take_more c i (pos 0) il)
-
--- what lies past the copy stays
-pub rest_more : (old now : List ℤ) (f i : ℕ) (l : ℤ) → drop (f + i) now ≡ drop (f + i) old → drop (f + (i + 1)) (set now (f + i) l) ≡ drop (f + (i + 1)) old
-rest_more old now f i l h =
-    let lt : f + i < f + (i + 1) = omega arith in
-    let e : f + (i + 1) ≡ (f + i) + 1 = omega arith in
-    drop-set-lt (f + (i + 1)) now (f + i) l lt ∙ ap (λ (n : ℕ). drop n now) e ∙ sym (drop-drop 1 (f + i) now) ∙ ap (drop 1) h ∙ drop-drop 1 (f + i) old ∙ ap (λ (n : ℕ). drop n old) (sym e)
-
-pub copying_none : (s : Store) (c : Clause) → take (s.filled + 0) s.literals.now ≡ take s.filled s.literals.now ++ take 0 c → Copying s s c 0
-copying_none s c h =
-    record { rows = refl; count = refl; filled = refl; variables = refl; next = refl; long = refl; copied = h; rest = refl }
 
 -- the literals now: those from before, and the clause
 module _ (old new : List ℤ) (c : Clause) (f : ℕ) (fl : f ≤ length old) (copied : take (f + length c) new ≡ take f old ++ c) where
@@ -109,25 +68,15 @@ appended_of s t v u number len c e cp r k f l w se =
       filled = se.filled ∙ rw (f, cp.filled, e);
       variables = se.variables ∙ w ∙ cp.variables;
       long = ap length (se.literals ∙ l) ∙ cp.long;
-      copied = rw (se.literals, l) (cp.copied ∙ rw (take_all (length c) c (omega arith)));
+      copied = rw (se.literals, l) cp.copied;
     }
 
-module _ (s u : Store) (number : ℕ) (c : Clause) (ok : Sound s) (lt : s.count < length s.rows.now) (fits : s.filled + length c ≤ length s.literals.now) (a : Appended s u number c) where
-  pub appended_sound : s.filled + length c < 2 ^ 32 → Speaks c s.variables → Under s.rows.now s.count number → number < u.next → s.next ≤ u.next → Sound u
-  appended_sound small speaks up below more =
-      record {
-        counted = rw (a.rows, a.count, length-set s.rows.now s.count r) (omega arith);
-        small = omega (arith, a.filled);
-        within = omega (arith, a.filled, a.long);
-        spans = rw (a.rows, a.count, a.filled) (spans_push s.rows.now s.count r lt s.filled (s.filled + length c) ok.spans (omega arith) (omega arith));
-        ordered = rw (a.rows, a.count) (ordered_push s.rows.now s.count r lt s.filled ok.ordered ok.spans (omega arith));
-        rising = rw (a.rows, a.count) (rising_push s.rows.now s.count r lt ok.rising up);
-        under = rw (a.rows, a.count) (under_push s.rows.now s.count r lt u.next (λ k kn. omega (arith, ok.under k kn)) below);
-        named = rw (a.filled, a.variables) (named_copied s.literals.now u.literals.now c s.filled ok.within a.copied s.variables ok.named speaks);
-      }
-    where
-      r : Row
-      r = record { number = number; start = s.filled; len = length c; live = true }
+-- what is held then
+pub appended_held : (s u : Store) (number : ℕ) (c : Clause) → s.count < length s.rows.now → Appended s u number c → held u ≡ held s ++ record { number = number; literals = c } ∷ []
+appended_held s u number c lt a =
+    rw (a.rows, a.count) (held_copied s.literals.now u.literals.now c s.filled s.within a.copied s.rows.now s.count number lt s.spans)
 
-  pub appended_held : held u ≡ held s ++ record { number = number; literals = c } ∷ []
-  appended_held = rw (a.rows, a.count) (held_copied s.literals.now u.literals.now c s.filled ok.within a.copied s.rows.now s.count number lt ok.spans)
+-- the literals of a clause that was copied speak of variables
+pub copied_named : (s t : Store) (c : Clause) (n : ℕ) → n ≡ length c → Copied s t c → Speaks c s.variables → Named t.literals.now (t.filled + n) t.variables
+copied_named s t c n e cp speaks =
+    rw (e, cp.filled, cp.variables) (named_copied s.literals.now t.literals.now c s.filled s.within cp.copied s.variables s.named speaks)

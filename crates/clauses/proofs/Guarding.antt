@@ -1,20 +1,20 @@
 -- The watching engine, step by step.
-use Rattle.std.proofs.Common.{◌≡◌, ℕ, ◌+◌, ◌-◌, ◌*◌, ◌^◌, ◌<◌, ◌≤◌, Bool, true, false, T, ◌≢◌, ◌⊎◌, List, length, get_or, set, ℤ, pos, Some, None, Option, sym, refl, ap, ◌∙◌, subst, inl, inr, arith, below_more}
+use Rattle.std.proofs.Common.{Ok, Err, OnOk, is_err, Result, ◌≡◌, ℕ, ◌+◌, ◌-◌, ◌*◌, ◌^◌, ◌<◌, ◌≤◌, Bool, true, false, T, ◌≢◌, ◌⊎◌, List, length, get_or, set, ℤ, pos, Some, None, Option, sym, refl, ap, ◌∙◌, subst, inl, inr, arith, below_more}
 use Rattle.std.proofs.lemmas.List.{get_or-set_same, get_or-set_other, length-set}
-use Rattle.std.proofs.lemmas.Bool.{cases_eq, false≢true}
+use Rattle.std.proofs.lemmas.Bool.{cases_eq}
 use Rattle.text.specs.Literals.{Clause, variable_of}
-use Rattle.clauses.specs.Propagation.{value, is_false, satisfied, Settled, Reached, Below, Refuted}
+use Rattle.clauses.specs.Propagation.{value, is_false, satisfied, Settled, Reached, Below}
 use Rattle.clauses.specs.Cells.{values_of}
 use Rattle.clauses.specs.Codes.{code_of, code_against, Against}
 use Rattle.clauses.specs.Linked.{On, Linked}
-use Rattle.clauses.specs.Engine.{Advanced, Ready}
+use Rattle.clauses.specs.Engine.{Advanced, Quiet, Ready}
 use Rattle.clauses.specs.Stored.{held, Sound}
-use Rattle.clauses.specs.Events.{clause_at, Listed, Same, Examined, Looked}
+use Rattle.clauses.specs.Events.{clause_at, Listed, Same, Examined}
 use Rattle.clauses.specs.Watching.{false_at, AllBut, Pair, Kept, Guards, Grown, Watches, Spotted, Joined, Enlisted, Moved, Renewed, Visited, Waits, Rest, Watch, Paired, Guarded, Watchful}
 use Rattle.clauses.specs.declared.index.Index.{Index}
 use Rattle.clauses.specs.declared.store.Store.{Store}
 use Rattle.clauses.specs.declared.trail.Trail.{Trail}
-use Rattle.clauses.proofs.Theory.{reached_more, reached_none, value_below, settled_refuted}
+use Rattle.clauses.proofs.Theory.{reached_more, reached_none, value_below}
 use Rattle.clauses.proofs.Hits.{satisfied_below, against_code}
 use Rattle.clauses.proofs.Links.{on_bound, on_set, on_none, on_step, below_push}
 use Rattle.clauses.proofs.Entries.{listed_kept, listed_new, code_bound}
@@ -208,10 +208,9 @@ watchful_none s x w xs t head code lt cl is h =
 pub watchful_end : (s : Store) (x : Index) (w : List ℕ) (xs : List (Option Bool)) (t : Trail) (low link : ℕ) → link ≡ 0 → Watchful s x w xs t low link → Watchful s x w xs t low 0
 watchful_end s x w xs t low link e h = rw e at h
 
--- with nothing left on the trail, nothing is refuted
-pub watchful_done : (s : Store) (x : Index) (w : List ℕ) (xs ys : List (Option Bool)) (t : Trail) (head : ℕ) → Sound s → t.tail ≤ head → Reached (held s) (values_of xs) (values_of ys) → Watchful s x w ys t head 0 → Refuted (held s) (values_of xs) → ⊥
-watchful_done s x w xs ys t head ok le r h =
-    settled_refuted (held s) (values_of xs) (values_of ys) r (rows_settled s ys ok (λ k kc. row k (h.rows k kc)))
+-- with nothing left on the trail, no clause can make a step
+pub watchful_quiet : (s : Store) (x : Index) (w : List ℕ) (ys : List (Option Bool)) (t : Trail) (head : ℕ) → Sound s → Watchful s x w ys t head 0 → Quiet s ys t head
+watchful_quiet s x w ys t head ok h le = rows_settled s ys ok (λ k kc. row k (h.rows k kc))
   where
     open' : (k p : ℕ) → Watch s x ys t head 0 k p → false_at ys (clause_at s k) p ≡ false
     open' k p a = go a.good
@@ -256,12 +255,6 @@ begun_more s x₀ x y w v xs ys zs t u z k lt b r ready vis room =
     listed p pl (inl e) = absurd (omega (arith, b.nowhere (2 * k) (omega arith) (omega arith), short))
     listed p pl (inr (inl e)) = absurd (omega (arith, b.nowhere (2 * k + 1) (omega arith) (omega arith), short))
     listed p pl (inr (inr l)) = l
-
-pub nowhere_more : (w : List ℕ) (i : ℕ) → i < length w → ((k : ℕ) → k < i → get_or w k 0 ≡ 4294967295) → (k : ℕ) → k < i + 1 → get_or (set w i 4294967295) k 0 ≡ 4294967295
-nowhere_more w i lt h =
-    below_more (λ k. get_or (set w i 4294967295) k 0 ≡ 4294967295) i
-    (λ k ki. let ne : k ≢ i = omega arith in rw (get_or-set_other w i k 4294967295 0 ne) (h k ki))
-    (get_or-set_same w i 4294967295 0 lt)
 
 -- the row's two places were written
 places_others : (w : List ℕ) (k p q : ℕ) (j : ℕ) → (j ≡ 2 * k → ⊥) → (j ≡ 2 * k + 1 → ⊥) → get_or (set (set w (2 * k) p) (2 * k + 1) q) j 0 ≡ get_or w j 0
@@ -360,12 +353,12 @@ same_more x y z a b = record { heads = b.heads ∙ a.heads; next = b.next ∙ a.
 pub same_of : (x y : Index) → length y.heads.now ≡ length x.heads.now → length y.next.now ≡ length x.next.now → length y.owners.now ≡ length x.owners.now → Same x y
 same_of x y a b c = record { heads = a; next = b; owners = c }
 
-pub visited_examine : (s : Store) (k : ℕ) (w : List ℕ) (x : Index) (xs ys : List (Option Bool)) (t u : Trail) (cl : Clause) (r : Bool) → r ≡ false → cl ≡ clause_at s k → Guards s x → Spotted s x.used xs w → ((p : ℕ) × AllBut xs cl p) → Advanced (held s) xs ys r → Looked s k xs ys t u r → Visited s k x x w w xs ys t u
-visited_examine s k w x xs ys t u cl true q is g spots none goes looked = absurd (false≢true (sym q))
-visited_examine s k w x xs ys t u cl false q is g spots none goes looked = visited_look s k w x xs ys t u cl is g spots none goes looked
+pub visited_examine : {E : Type 0} (s : Store) (k : ℕ) (w : List ℕ) (x : Index) (xs ys : List (Option Bool)) (t u : Trail) (cl : Clause) (r : Result (Unit {0}) E) → cl ≡ clause_at s k → Guards s x → Spotted s x.used xs w → ((p : ℕ) × AllBut xs cl p) → Advanced (held s) xs ys (is_err r) → OnOk r (Examined s k xs ys t u) → OnOk r (Visited s k x x w w xs ys t u)
+visited_examine s k w x xs ys t u cl (Err e) is g spots none goes examined = tt
+visited_examine s k w x xs ys t u cl (Ok a) is g spots none goes examined = visited_look s k w x xs ys t u cl is g spots none goes examined
 
-pub begun_none : (s : Store) (x : Index) (w : List ℕ) (xs : List (Option Bool)) (t : Trail) → Ready s xs t → Guards s x → x.used ≡ 0 → ((k : ℕ) → k < 2 * s.count → get_or w k 0 ≡ 4294967295) → Begun s x x w xs xs t t 0
-begun_none s x w xs t ready g e h =
+pub begun_none : (s : Store) (x₀ x : Index) (w : List ℕ) (xs : List (Option Bool)) (t : Trail) → Ready s xs t → Same x₀ x → Guards s x → x.used ≡ 0 → ((k : ℕ) → k < 2 * s.count → get_or w k 0 ≡ 4294967295) → Begun s x₀ x w xs xs t t 0
+begun_none s x₀ x w xs t ready same g e h =
     record {
       reached = reached_none (held s) (values_of xs);
       ready = ready;
@@ -373,6 +366,6 @@ begun_none s x w xs t ready g e h =
       spots = spots_none s x.used xs w e;
       rows = λ j lt. absurd (omega arith);
       nowhere = λ j le lt. h j lt;
-      same = same_none x;
+      same = same;
       room = refl;
     }

@@ -2,13 +2,7 @@
 use Rattle.std.proofs.Common.{◌≡◌, ℕ, suc, ◌+◌, ◌<◌, ◌≤◌, ◌≢◌, ◌⊎◌, List, length, get_or, set, sym, ap, ◌∙◌, subst, inl, inr, add-one, arith, below_more}
 use Rattle.std.proofs.lemmas.List.{get_or-set_same, get_or-set_other}
 use Rattle.std.proofs.lemmas.Bool.{cases_eq}
-use Rattle.clauses.specs.Linked.{On, here, there, Falling, Upto, AllBelow}
-
-pub falling_push : (next : List ℕ) (n v : ℕ) → n < length next → v ≤ n → Falling next n → Falling (set next n v) (n + 1)
-falling_push next n v lt le h =
-    below_more (λ i. get_or (set next n v) i 0 ≤ i) n
-    (λ i k. let ne : i ≢ n = omega arith in rw (get_or-set_other next n i v 0 ne) (h i k))
-    (rw (get_or-set_same next n v 0 lt) le)
+use Rattle.clauses.specs.Links.{On, here, there, Falling, AllBelow}
 
 pub below_push : (xs : List ℕ) (n m v : ℕ) → n < length xs → v < m → AllBelow xs n m → AllBelow (set xs n v) (n + 1) m
 below_push xs n m v lt le h =
@@ -57,16 +51,3 @@ on_enter next heads n code c e f lt cl le o = go (cases_eq c code)
 
 pub on_new : (next heads : List ℕ) (n code v : ℕ) → code < length heads → On next (get_or (set heads code (n + 1)) code 0) n
 on_new next heads n code v cl = subst (λ (z : ℕ). On next z n) (sym (get_or-set_same heads code (n + 1) 0 cl ∙ add-one n)) here
-
-pub zeros_push : (xs : List ℕ) (n : ℕ) → n < length xs → ((k : ℕ) → k < n → get_or xs k 0 ≡ 0) → (k : ℕ) → k < n + 1 → get_or (set xs n 0) k 0 ≡ 0
-zeros_push xs n lt h =
-    below_more (λ i. get_or (set xs n 0) i 0 ≡ 0) n
-    (λ i k. let ne : i ≢ n = omega arith in rw (get_or-set_other xs n i 0 0 ne) (h i k))
-    (get_or-set_same xs n 0 0 lt)
-
-pub upto_set : (xs : List ℕ) (n m i v : ℕ) → i < length xs → Upto xs n m → v ≤ m → Upto (set xs i v) n m
-upto_set xs n m i v lt h le k kn = go (cases_eq k i)
-  where
-    go : (k ≡ i) ⊎ (k ≡ i → ⊥) → get_or (set xs i v) k 0 ≤ m
-    go (inl q) = rw (q, get_or-set_same xs i v 0 lt) le
-    go (inr q) = rw (get_or-set_other xs i k v 0 q) (h k kn)

@@ -43,6 +43,11 @@ unset_most (x ∷ xs) = go (is_unset x) (unset_most xs)
     go true h = omega arith
     go false h = omega arith
 
+-- the rows and literals of a store fit together
+pub sound_of : (s : Store) → Sound s
+sound_of s =
+    record { counted = s.counted; small = omega (arith, s.within, s.small); within = s.within; spans = s.spans; ordered = s.ordered; rising = s.rising; under = s.under; named = s.named }
+
 -- what holds of each row's clause holds of each clause held
 pub all_held : (P : Clause → Type 0) (lits : List ℤ) (rows : List Row) (count : ℕ) → count ≤ length rows → ((k : ℕ) → k < count → P (span lits (row_at rows k))) → AllByRecursion (λ h. P h.literals) (held_in lits (take count rows))
 all_held P lits rows zero le h = tt

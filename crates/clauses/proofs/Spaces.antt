@@ -4,7 +4,7 @@ use Rattle.std.proofs.lemmas.List.{take_more, length-take}
 use Rattle.std.proofs.lemmas.Bool.{leb-true, le-leb}
 use Rattle.clauses.specs.ClauseBase.{literal_count}
 use Rattle.clauses.specs.Rows.{no_row, row_at, span, held_in, Spans, Ordered}
-use Rattle.clauses.specs.Stored.{held, Sound}
+use Rattle.clauses.specs.Stored.{held}
 use Rattle.clauses.specs.Closing.{room_for, Spacious}
 use Rattle.clauses.specs.declared.row.Row.{Row}
 use Rattle.clauses.specs.declared.store.Store.{Store}
@@ -40,15 +40,14 @@ and_true true b h = (refl, sym h)
 and_true false b h = let z : ◌≡◌ {A = ℕ} 0 1 = cc in absurd (omega arith)
 
 -- what has room behind all that is in use has room
-pub spacious : (s : Store) (len : ℕ) → Sound s → true ≡ room_for s.count s.filled len s → Spacious s s len true
-spacious s len ok h =
+pub spacious : (s : Store) (len : ℕ) → true ≡ room_for s.count s.filled len s → Spacious s s len true
+spacious s len h =
     let t = and_true (leb (suc s.count) (length s.rows.now)) (leb (s.filled + len) (length s.literals.now)) h in
     let a : s.count < length s.rows.now = leb-true (suc s.count) (length s.rows.now) t.0 in
     let b : s.filled + len ≤ length s.literals.now = leb-true (s.filled + len) (length s.literals.now) t.1 in
     let few : length (held s) ≤ s.count = held_few s.literals.now s.rows.now s.count in
-    let less : literal_count (held s) ≤ s.filled = literals_few s.literals.now s.rows.now s.count s.filled ok.counted ok.spans ok.ordered in
+    let less : literal_count (held s) ≤ s.filled = literals_few s.literals.now s.rows.now s.count s.filled s.counted s.spans s.ordered in
     record {
-      sound = ok;
       kept = record { rows = refl; literals = refl; variables = refl };
       next = refl;
       clauses = refl;

@@ -3,7 +3,7 @@ use Rattle.std.proofs.Common.{◌≡◌, ℕ, suc, ◌+◌, ◌<◌, ◌≤◌, 
 use Rattle.std.proofs.lemmas.List.{get_or-set_same, get_or-set_other}
 use Rattle.std.proofs.lemmas.Bool.{cases_eq}
 use Rattle.text.specs.Lists.{how_many}
-use Rattle.clauses.specs.Linked.{On, here, there, Falling}
+use Rattle.clauses.specs.Links.{On, here, there, Falling}
 use Rattle.clauses.specs.Counting.{Tally, none, one, skip}
 
 -- a write at n, past the list, leaves it

@@ -2,17 +2,17 @@
 use Rattle.std.proofs.Common.{◌≡◌, ℕ, ◌+◌, ◌-◌, ◌<◌, ◌≤◌, Bool, ◌⊎◌, List, length, get_or, ℤ, pos, Option, sym, ap, ◌∙◌, subst, inl, inr, arith, below_more}
 use Rattle.std.proofs.lemmas.Bool.{cases_eq}
 use Rattle.text.specs.Literals.{Clause}
-use Rattle.clauses.specs.Propagation.{Settled, Reached, Refuted}
+use Rattle.clauses.specs.Propagation.{Settled, Reached}
 use Rattle.clauses.specs.Cells.{values_of}
 use Rattle.clauses.specs.Stored.{held, Sound}
 use Rattle.clauses.specs.Codes.{code_of, code_against, Hit}
 use Rattle.clauses.specs.Linked.{On, Linked}
-use Rattle.clauses.specs.Engine.{Ready}
+use Rattle.clauses.specs.Engine.{Quiet, Ready}
 use Rattle.clauses.specs.Events.{clause_at, Waiting, Examined, Listed, Pending, Walking, Indexed, Starting, Walk}
 use Rattle.clauses.specs.declared.store.Store.{Store}
 use Rattle.clauses.specs.declared.trail.Trail.{Trail}
 use Rattle.clauses.specs.declared.index.Index.{Index}
-use Rattle.clauses.proofs.Theory.{reached_more, settled_refuted}
+use Rattle.clauses.proofs.Theory.{reached_more}
 use Rattle.clauses.proofs.OneRow.{rows_settled}
 use Rattle.clauses.proofs.Hits.{against_code}
 use Rattle.clauses.proofs.Links.{on_none, on_step}
@@ -85,10 +85,9 @@ walking_all s x ys u low link z w k kc = go (w k kc)
     go (inr (inl h)) = inr h
     go (inr (inr c)) = absurd (on_none x.next.now link c.0 z c.1)
 
--- with nothing left on the trail, nothing is refuted
-pub pending_none : (s : Store) (xs ys : List (Option Bool)) (u : Trail) (head : ℕ) → Sound s → u.tail ≤ head → Reached (held s) (values_of xs) (values_of ys) → Pending s ys u head → Refuted (held s) (values_of xs) → ⊥
-pending_none s xs ys u head ok le r p =
-    settled_refuted (held s) (values_of xs) (values_of ys) r (rows_settled s ys ok (λ k kc. go k (p k kc)))
+-- with nothing left on the trail, no clause can make a step
+pub pending_quiet : (s : Store) (ys : List (Option Bool)) (u : Trail) (head : ℕ) → Sound s → Pending s ys u head → Quiet s ys u head
+pending_quiet s ys u head ok p le = rows_settled s ys ok (λ k kc. go k (p k kc))
   where
     go : (k : ℕ) → Settled (values_of ys) (clause_at s k) ⊎ Waiting u head (clause_at s k) → Settled (values_of ys) (clause_at s k)
     go k (inl h) = h

@@ -5,7 +5,7 @@
 use Rattle.std.specs.Prelude.{◌≡◌, ℕ, suc, ◌+◌, ◌<◌, ◌≤◌, Bool, true, ◌&&◌, List, length, take, drop, ℤ, nat_le}
 use Rattle.clauses.specs.ClauseBase.{literal_count}
 use Rattle.clauses.specs.Rows.{row_at, held_in, Dense}
-use Rattle.clauses.specs.Stored.{held, Sound, Kept}
+use Rattle.clauses.specs.Stored.{held, Kept}
 use Rattle.clauses.specs.declared.row.Row.{Row}
 use Rattle.clauses.specs.declared.store.Store.{Store}
 
@@ -13,7 +13,6 @@ abbrev pub room_for : ℕ → ℕ → ℕ → Store → Bool
 room_for count filled len s = nat_le (suc count) (length s.rows.now) && nat_le (filled + len) (length s.literals.now)
 
 pub record Spacious (s t : Store) (len : ℕ) (r : Bool) : Type 0 where
-  pub sound : Sound t
   pub kept : Kept s t
   pub next : t.next ≡ s.next
   pub clauses : held t ≡ held s
@@ -21,7 +20,6 @@ pub record Spacious (s t : Store) (len : ℕ) (r : Bool) : Type 0 where
   pub behind : r ≡ true → (t.count < length t.rows.now) × (t.filled + len ≤ length t.literals.now)
 
 pub record Closed (s t : Store) : Type 0 where
-  pub sound : Sound t
   pub kept : Kept s t
   pub next : t.next ≡ s.next
   pub clauses : held t ≡ held s
@@ -31,7 +29,6 @@ pub record Closed (s t : Store) : Type 0 where
 
 -- of the rows and literals as they were, with so many rows in use, the rows below k were brought down
 pub record Closing (rows : List Row) (lits : List ℤ) (total next variables : ℕ) (t : Store) (k : ℕ) : Type 0 where
-  pub sound : Sound t
   pub behind : drop t.count t.rows.now ≡ drop t.count rows
   pub beyond : drop t.filled t.literals.now ≡ drop t.filled lits
   pub long : length t.rows.now ≡ length rows

@@ -1,10 +1,10 @@
 -- What the part that every base holds means.
 -- trial_of: the trial at a phase, over these cells; room_of: the room that memory gives
--- meaning_of: its meaning; Sane: its parts fit together; Steady: its memory is as long as before
-use Rattle.std.specs.Prelude.{◌≡◌, ◌-◌, ◌^◌, ◌<◌, ◌≤◌, Bool, List, length, Option}
+-- meaning_of: its meaning; Steady: its memory is as long as before
+use Rattle.std.specs.Prelude.{◌≡◌, ◌-◌, Bool, List, length, Option}
 use Rattle.clauses.specs.Cells.{values_of}
 use Rattle.clauses.specs.ClauseBase.{Meaning, Trial, idle, running, answered}
-use Rattle.clauses.specs.Stored.{held, Sound}
+use Rattle.clauses.specs.Stored.{held}
 use Rattle.clauses.specs.declared.common.Common.{Common}
 use Rattle.clauses.specs.declared.phase.Phase.{Phase}
 use Rattle.clauses.specs.declared.phase.Phase.TheVariants.{Idle, Open, Answered}
@@ -20,13 +20,6 @@ room_of c = record { variables = length c.values.cells.now - 1; clauses = length
 
 abbrev pub meaning_of : Common → Meaning
 meaning_of c = record { variables = c.store.variables; live = held c.store; next = c.store.next; room = room_of c; trial = trial_of c.phase c.values.cells.now }
-
-pub record Sane (c : Common) : Type 0 where
-  pub sound : Sound c.store
-  pub placed : c.store.variables ≤ length c.values.cells.now - 1
-  pub lasting : length c.values.cells.now ≤ length c.trail.literals.now
-  pub few : length c.store.rows.now < 2 ^ 32
-  pub small : length c.store.literals.now < 2 ^ 32
 
 pub record Steady (c d : Common) : Type 0 where
   pub rows : length d.store.rows.now ≡ length c.store.rows.now

@@ -4,7 +4,7 @@ use Rattle.text.specs.Literals.{variable_of, positive}
 use Rattle.clauses.specs.Propagation.{Values}
 use Rattle.clauses.specs.Cells.{values_of}
 use Rattle.clauses.specs.Counting.{Tally, non_false, Gap}
-use Rattle.clauses.specs.Events.{clause_at, Starting}
+use Rattle.clauses.specs.Events.{clause_at, Fit, Indexed, Pending, Starting}
 use Rattle.clauses.specs.declared.store.Store.{Store}
 use Rattle.clauses.specs.declared.trail.Trail.{Trail}
 use Rattle.clauses.specs.declared.index.Index.{Index}
@@ -34,3 +34,10 @@ pub record Begun (s : Store) (xs ys : List (Option Bool)) (left : List ℕ) (t u
   pub gap : Gap (values_of xs) (values_of ys) u 0
   pub made : Made ys u 0
   pub counts : (r : ℕ) → r < k → slice_index left r ≤ non_false (values_of xs) (clause_at s r)
+
+-- what holds before the trail's literal at head is taken up
+pub record Counted (s : Store) (x : Index) (left : List ℕ) (ys : List (Option Bool)) (u : Trail) (head : ℕ) : Type 0 where
+  pub fit : Fit s x
+  pub indexed : Indexed s x s.count
+  pub pending : Pending s ys u head
+  pub told : Told s ys left u s.count head

@@ -1,14 +1,15 @@
 -- What an engine keeps that looks at a clause when a literal of it becomes false.
-use Rattle.std.specs.Prelude.{◌≡◌, ℕ, ◌+◌, ◌-◌, ◌*◌, ◌^◌, ◌<◌, ◌≤◌, Bool, true, false, ◌⊎◌, List, length, take, pos, Some, Option, slice_index, slice_index_or}
+use Rattle.std.specs.Prelude.{◌≡◌, ℕ, ◌+◌, ◌-◌, ◌*◌, ◌<◌, ◌≤◌, Bool, ◌⊎◌, List, length, take, pos, Some, Option, slice_index, slice_index_or}
 use Rattle.text.specs.Literals.{Clause, variable_of, positive}
 use Rattle.clauses.specs.Propagation.{Settled, Reached}
-use Rattle.clauses.specs.Stored.{held, Sound}
+use Rattle.clauses.specs.Stored.{held}
 use Rattle.clauses.specs.Engine.{Ready}
 use Rattle.clauses.specs.Cells.{values_of}
 use Rattle.clauses.specs.Rows.{row_at, span}
 use Rattle.clauses.specs.Codes.{code_of, Hit}
 use Rattle.clauses.specs.Counting.{Gap, Tally, hits}
-use Rattle.clauses.specs.Linked.{On, AllBelow, Linked}
+use Rattle.clauses.specs.Links.{On, AllBelow}
+use Rattle.clauses.specs.Linked.{Linked}
 use Rattle.clauses.specs.declared.store.Store.{Store}
 use Rattle.clauses.specs.declared.trail.Trail.{Trail}
 use Rattle.clauses.specs.declared.index.Index.{Index}
@@ -29,10 +30,6 @@ pub record Examined (s : Store) (k : ℕ) (xs ys : List (Option Bool)) (t u : Tr
   pub gap : Gap (values_of xs) (values_of ys) u t.tail
   pub made : (q : ℕ) → t.tail ≤ q → q < u.tail → values_of ys (variable_of (slice_index_or u.literals.now q (pos 0))) ≡ Some (positive (slice_index_or u.literals.now q (pos 0)))
 
-abbrev pub Looked : Store → ℕ → List (Option Bool) → List (Option Bool) → Trail → Trail → Bool → Type 0
-Looked s k xs ys t u true = Unit {0}
-Looked s k xs ys t u false = Examined s k xs ys t u
-
 -- the row r is on the list of the literals with this code
 abbrev pub Listed : Index → ℕ → ℕ → Type 0
 Listed x code r = (e : ℕ) × On x.next.now (slice_index x.heads.now code) e × (slice_index x.owners.now e ≡ r)
@@ -47,12 +44,10 @@ Walking s x xs t head link = (k : ℕ) → k < s.count → Settled (values_of xs
 
 -- the memory suffices
 pub record Fit (s : Store) (x : Index) : Type 0 where
-  pub sound : Sound s
   pub linked : Linked x
   pub next : s.filled ≤ length x.next.now
   pub owners : s.filled ≤ length x.owners.now
   pub heads : 2 * s.variables ≤ x.lists - 2
-  pub few : s.count < 2 ^ 32
 
 -- an index keeps its memory
 pub record Same (x y : Index) : Type 0 where

@@ -1,27 +1,24 @@
 -- What a store holds after an addition, step by step.
 -- Speaks: each literal of the clause speaks of a variable
--- Copying, Copied: literals stand behind those in use; Sealed: and are a clause; Pushed: under the next number
+-- Copied: literals stand behind those in use; Sealed: and are a clause; Pushed: under the next number
 use Rattle.std.specs.Prelude.{◌≡◌, ℕ, ◌+◌, ◌-◌, ◌<◌, true, [], ◌∷◌, ◌++◌, length, take, drop, pos, slice_index_or, slice_set}
 use Rattle.text.specs.Literals.{Clause, variable_of}
-use Rattle.clauses.specs.Stored.{held, Sound, Kept}
+use Rattle.clauses.specs.Stored.{held, Kept}
 use Rattle.clauses.specs.declared.store.Store.{Store}
 
 abbrev pub Speaks : Clause → ℕ → Type 0
 Speaks c variables = (k : ℕ) → k < length c → variable_of (slice_index_or c k (pos 0)) - 1 < variables
 
--- the first i literals of c were copied behind the literals of s, which is t now
-pub record Copying (s t : Store) (c : Clause) (i : ℕ) : Type 0 where
+-- the literals of c were copied behind those of s, which is t now
+pub record Copied (s t : Store) (c : Clause) : Type 0 where
   pub rows : t.rows.now ≡ s.rows.now
   pub count : t.count ≡ s.count
   pub filled : t.filled ≡ s.filled
   pub variables : t.variables ≡ s.variables
   pub next : t.next ≡ s.next
   pub long : length t.literals.now ≡ length s.literals.now
-  pub copied : take (s.filled + i) t.literals.now ≡ take s.filled s.literals.now ++ take i c
-  pub rest : drop (s.filled + i) t.literals.now ≡ drop (s.filled + i) s.literals.now
-
-abbrev pub Copied : Store → Store → Clause → Type 0
-Copied s t c = Copying s t c (length c)
+  pub copied : take (s.filled + length c) t.literals.now ≡ take s.filled s.literals.now ++ c
+  pub rest : drop (s.filled + length c) t.literals.now ≡ drop (s.filled + length c) s.literals.now
 
 pub record Sealed (s t : Store) (number len : ℕ) : Type 0 where
   pub rows : t.rows.now ≡ slice_set s.rows.now s.count (record { number = number; start = s.filled; len = len; live = true })
@@ -32,7 +29,6 @@ pub record Sealed (s t : Store) (number len : ℕ) : Type 0 where
   pub next : t.next ≡ s.next
 
 pub record Pushed (s t : Store) (c : Clause) : Type 0 where
-  pub sound : Sound t
   pub kept : Kept s t
   pub next : t.next ≡ s.next + 1
   pub clauses : held t ≡ held s ++ record { number = s.next; literals = c } ∷ []

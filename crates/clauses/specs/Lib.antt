@@ -10,6 +10,7 @@ pub mod Closing
 pub mod Cells
 pub mod Status
 pub mod Codes
+pub mod Links
 pub mod Linked
 pub mod Engine
 pub mod Counting

@@ -26,7 +26,6 @@ pub record Kept (s t : Store) : Type 0 where
   pub variables : t.variables ≡ s.variables
 
 pub record Cleared (s t : Store) (variables : ℕ) : Type 0 where
-  pub sound : Sound t
   pub rows : length t.rows.now ≡ length s.rows.now
   pub literals : length t.literals.now ≡ length s.literals.now
   pub variables' : t.variables ≡ variables

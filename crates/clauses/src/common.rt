@@ -1,4 +1,6 @@
 //! What every base holds: the clauses, and the trial.
+ghost use Rattle.std.specs.Prelude.{◌-◌, ◌≤◌, length};
+
 use crate::phase::Phase;
 use crate::store::Store;
 use crate::trail::Trail;
@@ -18,4 +20,6 @@ pub struct Common<'a> {
     pub values: Values<'a>,
     pub trail: Trail<'a>,
     pub phase: Phase,
+    ghost placed: { store.variables ≤ length values.cells.now - 1 },
+    ghost lasting: { length values.cells.now ≤ length trail.literals.now },
 }

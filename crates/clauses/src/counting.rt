@@ -1,13 +1,11 @@
 //! The base that counts a clause's literals not yet false.
-ghost use Rattle.std.specs.Prelude.{ℕ, ◌+◌, ◌-◌, ◌*◌, ◌^◌, ◌<◌, ◌≤◌, length};
-ghost use Rattle.clauses.specs.Rows.{Named, Ordered, Rising, Spans, Under};
+ghost use Rattle.clauses.specs.ClauseBase.{fresh};
+ghost use Rattle.clauses.specs.Common.{meaning_of};
+ghost use Rattle.clauses.specs.Rooms.{counting_room};
+ghost use Rattle.std.specs.Prelude.{◌≡◌, length};
 
-use crate::common::Common;
-use crate::index::Index;
-
-pub mod calls;
-mod new;
-mod run;
+use crate::lent::Base;
+use crate::row::Row;
 
 /// A counter for each row, in memory that is lent.
 #[derive(Drop)]
@@ -15,25 +13,34 @@ pub struct Counters<'a> {
     pub(crate) left: &'a mut [u32],
 }
 
-/// A base over lent memory.
-#[derive(Drop)]
-pub struct Counting<'a> {
-    common: Common<'a>,
-    index: Index<'a>,
-    counters: Counters<'a>,
-    ghost counted: { common.store.count ≤ length common.store.rows.now },
-    ghost within: { common.store.filled ≤ length common.store.literals.now },
-    ghost spans: { Spans common.store.rows.now common.store.count common.store.filled },
-    ghost ordered: { Ordered common.store.rows.now common.store.count },
-    ghost rising: { Rising common.store.rows.now common.store.count },
-    ghost under: { Under common.store.rows.now common.store.count common.store.next },
-    ghost named: { Named common.store.literals.now common.store.filled common.store.variables },
-    ghost placed: { common.store.variables ≤ length common.values.cells.now - 1 },
-    ghost lasting: { length common.values.cells.now ≤ length common.trail.literals.now },
-    ghost few: { length common.store.rows.now < 2 ^ 32 },
-    ghost small: { length common.store.literals.now < 2 ^ 32 },
-    ghost nexts: { length common.store.literals.now ≤ length index.next.now },
-    ghost owners: { length common.store.literals.now ≤ length index.owners.now },
-    ghost heads: { 2 * length common.values.cells.now ≤ length index.heads.now },
-    ghost left: { length common.store.rows.now ≤ length counters.left.now },
+/// A base over lent memory, with a counter for each row.
+pub type Counting<'a> = Base<'a, Counters<'a>>;
+
+impl<'a> Base<'a, Counters<'a>> {
+    /// An empty base, with what room the memory allows: a row and a counter for each clause;
+    /// a literal, a link and an owner for each literal of a clause; a value and a place on the trail for
+    /// each variable and one more, and two heads.
+    pub fn new(
+        rows: &'a mut [Row],
+        literals: &'a mut [i32],
+        values: &'a mut [Option<bool>],
+        trail: &'a mut [i32],
+        heads: &'a mut [u32],
+        next: &'a mut [u32],
+        owners: &'a mut [u32],
+        left: &'a mut [u32],
+    ) -> Counting<'a>
+        ensures { meaning_of result.common ≡ fresh (counting_room (length rows.old) (length literals.old) (length values.old) (length trail.old) (length heads.old) (length next.old) (length owners.old) (length left.old)) }
+    {
+        Base::over(
+            rows,
+            literals,
+            values,
+            trail,
+            heads,
+            next,
+            owners,
+            Counters { left },
+        )
+    }
 }

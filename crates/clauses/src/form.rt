@@ -10,26 +10,20 @@ use crate::literal::variable;
 fn mentions(literals: &[i32], sought: usize) -> bool
     ensures { result ≡ some (λ l. nat_eq (variable_of l) sought) literals.now }
 {
-    for literal in literals {
-        if variable(*literal) == sought {
-            return true;
-        }
-    }
-    false
+    literals.iter().any(|literal| variable(*literal) == sought)
 }
 
 /// Whether each literal speaks of a variable from 1 to `variables`, and no two of the same.
 pub fn well_formed(clause: &[i32], variables: u32) -> bool
     ensures { result ≡ well_formed variables clause.now }
 {
-    for i in 0..clause.len() {
-        let found = variable(clause[i]);
-        if found == 0 || found > variables as usize {
+    let mut rest = clause;
+    while let [literal, after @ ..] = rest {
+        let found = variable(*literal);
+        if found == 0 || found > variables as usize || mentions(after, found) {
             return false;
         }
-        if mentions(&clause[i + 1..], found) {
-            return false;
-        }
+        rest = after;
     }
     true
 }

@@ -1,7 +1,6 @@
 //! An index of a store's rows.
 ghost use Rattle.std.specs.Prelude.{◌≡◌, ◌+◌, ◌-◌, ◌*◌, ◌^◌, ◌<◌, ◌≤◌, length};
 ghost use Rattle.clauses.specs.Events.{Fit, Indexed, Same};
-ghost use Rattle.clauses.specs.Stored.{Sound};
 
 use crate::index::Index;
 use crate::literal::code_of;
@@ -24,8 +23,6 @@ fn index_row(store: &Store, k: usize, index: &mut Index)
 
 /// Puts every row on the lists of its literals.
 pub(crate) fn index_all(store: &Store, index: &mut Index)
-    requires sound { Sound store.now }
-    requires few { store.now.count < 2 ^ 32 }
     requires next { store.now.filled ≤ length index.old.next.now }
     requires owners { store.now.filled ≤ length index.old.owners.now }
     requires heads { 2 * store.now.variables ≤ length index.old.heads.now - 2 }

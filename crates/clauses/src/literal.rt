@@ -1,5 +1,5 @@
 //! Literals, and what they are worth.
-ghost use Rattle.std.specs.Prelude.{◌≡◌, ◌+◌, ◌*◌, ◌<◌, ◌≤◌, not, length, Some, slice_set};
+ghost use Rattle.std.specs.Prelude.{◌≡◌, ◌+◌, ◌*◌, ◌<◌, ◌≤◌, cond, not, length, Some, slice_set};
 ghost use Rattle.clauses.specs.Cells.{values_of};
 ghost use Rattle.clauses.specs.Codes.{code_against, code_of};
 ghost use Rattle.clauses.specs.Propagation.{is_false, value};
@@ -17,8 +17,7 @@ pub fn code_of(literal: i32) -> usize
     ensures value { result ≡ code_of literal }
     ensures bound { result ≤ 2 * variable_of literal + 1 }
 {
-    let double = 2 * variable(literal);
-    if literal >= 0 { double } else { double + 1 }
+    2 * variable(literal) + usize::from(literal < 0)
 }
 
 /// The number of the list of the literal's opposite.
@@ -26,8 +25,7 @@ pub fn code_against(literal: i32) -> usize
     ensures value { result ≡ code_against literal }
     ensures bound { result ≤ 2 * variable_of literal + 1 }
 {
-    let double = 2 * variable(literal);
-    if literal >= 0 { double + 1 } else { double }
+    code_of(literal) ^ 1
 }
 
 /// What a literal is worth.
@@ -37,11 +35,9 @@ pub(crate) fn read(values: &[Option<bool>], literal: i32) -> Option<bool>
 {
     let found = values[variable(literal)];
     if literal >= 0 {
-        return found;
-    }
-    match found {
-        Some(b) => Some(!b),
-        None => None,
+        found
+    } else {
+        found.map(|b| !b)
     }
 }
 
@@ -50,10 +46,15 @@ pub(crate) fn is_open(values: &[Option<bool>], literal: i32) -> bool
     requires { variable_of literal < length values.now }
     ensures { result ≡ not (is_false (value (values_of values.now) literal)) }
 {
-    match read(values, literal) {
-        Some(b) => b,
-        None => true,
-    }
+    read(values, literal).unwrap_or(true)
+}
+
+/// Gives the literal this truth.
+pub(crate) fn give(values: &mut [Option<bool>], literal: i32, truth: bool)
+    requires { variable_of literal < length values.old }
+    ensures { values.new ≡ slice_set values.old (variable_of literal) (Some (cond truth (positive literal) (not (positive literal)))) }
+{
+    values[variable(literal)] = Some((literal >= 0) == truth);
 }
 
 /// Makes the literal true.
@@ -61,13 +62,5 @@ pub(crate) fn assign(values: &mut [Option<bool>], literal: i32)
     requires { variable_of literal < length values.old }
     ensures { values.new ≡ slice_set values.old (variable_of literal) (Some (positive literal)) }
 {
-    values[variable(literal)] = Some(literal >= 0);
-}
-
-/// Makes the literal false.
-pub(crate) fn deny(values: &mut [Option<bool>], literal: i32)
-    requires { variable_of literal < length values.old }
-    ensures { values.new ≡ slice_set values.old (variable_of literal) (Some (not (positive literal))) }
-{
-    values[variable(literal)] = Some(literal < 0);
+    give(values, literal, true);
 }

@@ -1,6 +1,6 @@
 //! Where a trial stands.
 
-#[derive(Clone, Copy)]
+#[derive(Clone, Copy, PartialEq, Eq)]
 pub enum Phase {
     Idle,
     Open,

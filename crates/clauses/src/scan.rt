@@ -25,12 +25,8 @@ pub(crate) fn status_of(clause: &[i32], values: &[Option<bool>]) -> Status
         match read(values, *literal) {
             Some(true) => return Status::Other,
             Some(false) => {}
-            None => {
-                if found.is_some() {
-                    return Status::Other;
-                }
-                found = Some(*literal);
-            }
+            None if found.is_none() => found = Some(*literal),
+            None => return Status::Other,
         }
     }
     match found {

@@ -1,15 +1,16 @@
 //! Clauses in memory that is lent.
-ghost use Rattle.std.specs.Prelude.{◌≡◌, ◌<◌};
-ghost use Rattle.clauses.specs.Rows.{row_at, span};
-ghost use Rattle.clauses.specs.Stored.{Cleared, Sound};
+ghost use Rattle.std.specs.Prelude.{◌^◌, ◌<◌, ◌≤◌, length};
+ghost use Rattle.clauses.specs.Rows.{Named, Ordered, Rising, Spans, Under};
 
 use crate::row::Row;
 
 mod append;
+mod clauses;
 mod close;
 mod find;
 
 /// The first `count` rows, over the first `filled` literals.
+// The memory is lent, so how much of it is in use stands beside it.
 #[derive(Drop)]
 pub struct Store<'a> {
     pub rows: &'a mut [Row],
@@ -18,28 +19,13 @@ pub struct Store<'a> {
     pub filled: usize,
     pub variables: u32,
     pub next: u32,
-}
-
-impl Store<'_> {
-    /// The literals of the clause in row k.
-    pub(crate) fn clause(&self, k: usize) -> &[i32]
-        requires k { k < self.now.count }
-        requires sound { Sound self.now }
-        ensures { result.now ≡ span self.now.literals.now (row_at self.now.rows.now k) }
-    {
-        let row = self.rows[k];
-        let start = row.start as usize;
-        let end = start + row.len as usize;
-        &self.literals[start..end]
-    }
-
-    /// No clause, and so many variables.
-    pub fn clear(&mut self, variables: u32)
-        ensures { Cleared self.old self.new variables }
-    {
-        self.count = 0;
-        self.filled = 0;
-        self.variables = variables;
-        self.next = 1;
-    }
+    ghost few: { length rows.now < 2 ^ 32 },
+    ghost small: { length literals.now < 2 ^ 32 },
+    ghost counted: { count ≤ length rows.now },
+    ghost within: { filled ≤ length literals.now },
+    ghost spans: { Spans rows.now count filled },
+    ghost ordered: { Ordered rows.now count },
+    ghost rising: { Rising rows.now count },
+    ghost under: { Under rows.now count next },
+    ghost named: { Named literals.now filled variables },
 }

@@ -1,19 +1,20 @@
 //! Propagation by watched literals: a clause is looked at when one of the two that it watches becomes false.
-ghost use Rattle.std.specs.Prelude.{◌≡◌, ℕ, ◌+◌, ◌-◌, ◌*◌, ◌^◌, ◌<◌, ◌≤◌, false, length, Decides, ◌≢◌, slice_index};
+ghost use Rattle.std.specs.Prelude.{◌≡◌, ℕ, ◌+◌, ◌*◌, ◌/◌, ◌^◌, ◌<◌, ◌≤◌, is_err, length, OnOk, ◌≢◌, slice_index};
 ghost use Rattle.clauses.specs.Cells.{values_of, Placed};
 ghost use Rattle.clauses.specs.Engine.{Advanced, Ready};
 ghost use Rattle.clauses.specs.Events.{clause_at, Same};
-ghost use Rattle.clauses.specs.Propagation.{Refuted};
-ghost use Rattle.clauses.specs.Stored.{held, Sound};
+ghost use Rattle.clauses.specs.Stored.{held};
 ghost use Rattle.clauses.specs.Watching.{false_at, Enlisted, Found, Guards, Picked, Spotted, TwoOpen, Visited, Watchful};
 
 use crate::index::Index;
 use crate::literal::{code_against, code_of, is_open};
-use crate::look::examine;
+use crate::look::{Conflict, examine};
+use crate::propagator::Propagator;
 use crate::store::Store;
 use crate::trail::Trail;
+use crate::watched::Places;
 
-/// No place of a clause.
+/// No place of a clause: the lent cells are plain numbers, with no room for an `Option`.
 const NOWHERE: u32 = 4_294_967_295;
 
 /// The first place of the clause, but for `avoid`, whose literal is not false.
@@ -21,6 +22,7 @@ fn open_place(clause: &[i32], values: &[Option<bool>], avoid: usize) -> Option<u
     requires { Placed clause.now (length values.now) }
     ensures { Found values.now clause.now avoid result }
 {
+    // With `find`, a visit took a tenth more instructions.
     for i in 0..clause.len() {
         if i == avoid {
             continue;
@@ -64,8 +66,6 @@ fn two_places(
 /// Puts row k on the list of the literal at this place, if it does not watch the place already.
 fn enlist(store: &Store, k: usize, place: usize, places: &[u32], index: &mut Index)
     requires k { k < store.now.count }
-    requires few { store.now.count < 2 ^ 32 }
-    requires sound { Sound store.now }
     requires place { place < length (clause_at store.now k) }
     requires places { 2 * store.now.count ≤ length places.now }
     requires guards { Guards store.now index.old }
@@ -80,7 +80,6 @@ fn enlist(store: &Store, k: usize, place: usize, places: &[u32], index: &mut Ind
 }
 
 /// Watches two literals of row k that are not false, or looks at the clause where there are none.
-/// Says whether the clause is in conflict.
 fn visit(
     store: &Store,
     k: usize,
@@ -88,16 +87,15 @@ fn visit(
     places: &mut [u32],
     index: &mut Index,
     trail: &mut Trail,
-) -> bool
+) -> Result<(), Conflict>
     requires k { k < store.now.count }
-    requires few { store.now.count < 2 ^ 32 }
     requires ready { Ready store.now values.old trail.old }
     requires places { 2 * store.now.count ≤ length places.old }
     requires guards { Guards store.now index.old }
     requires spots { Spotted store.now index.old.used values.old places.old }
-    ensures goes { Advanced (held store.now) values.old values.new result }
+    ensures goes { Advanced (held store.now) values.old values.new (is_err result) }
     ensures ready { Ready store.now values.new trail.new }
-    ensures visited { result ≡ false → Visited store.now k index.old index.new places.old places.new values.old values.new trail.old trail.new }
+    ensures visited { OnOk result (Visited store.now k index.old index.new places.old places.new values.old values.new trail.old trail.new) }
     ensures same { Same index.old index.new }
     ensures room { length trail.new.literals.now ≡ length trail.old.literals.now }
 {
@@ -109,7 +107,7 @@ fn visit(
             places[2 * k] = first as u32;
             enlist(store, k, second, places, index);
             places[2 * k + 1] = second as u32;
-            false
+            Ok(())
         }
         None => examine(store, k, values, trail),
     }
@@ -120,119 +118,57 @@ fn forget(places: &mut [u32], count: usize)
     requires { count ≤ length places.old }
     ensures { (k : ℕ) → k < count → slice_index places.new k ≡ 4294967295 }
 {
+    // With `fill`, a run took a fifteenth longer.
     for i in 0..count {
         places[i] = NOWHERE;
     }
 }
 
-/// Watches two literals of each clause.
-fn start(
-    store: &Store,
-    values: &mut [Option<bool>],
-    places: &mut [u32],
-    index: &mut Index,
-    trail: &mut Trail,
-) -> bool
-    requires few { store.now.count < 2 ^ 32 }
-    requires ready { Ready store.now values.old trail.old }
-    requires places { 2 * store.now.count ≤ length places.old }
-    requires guards { Guards store.now index.old }
-    requires empty { index.old.used ≡ 0 }
-    ensures goes { Advanced (held store.now) values.old values.new result }
-    ensures ready { Ready store.now values.new trail.new }
-    ensures watchful { result ≡ false → Watchful store.now index.new places.new values.new trail.new 0 0 }
-    ensures same { Same index.old index.new }
-    ensures room { length trail.new.literals.now ≡ length trail.old.literals.now }
-{
-    forget(places, 2 * store.count);
-    for k in 0..store.count {
-        if visit(store, k, values, places, index, trail) {
-            return true;
-        }
-    }
-    false
-}
+impl Propagator for Places<'_> {
+    ghost serves = { λ e. length e.at.now / 2 };
 
-/// Visits each row that watches the opposite of the trail's literal at `head`.
-fn wake(
-    store: &Store,
-    head: usize,
-    values: &mut [Option<bool>],
-    places: &mut [u32],
-    index: &mut Index,
-    trail: &mut Trail,
-) -> bool
-    requires few { store.now.count < 2 ^ 32 }
-    requires head { head < trail.old.tail }
-    requires ready { Ready store.now values.old trail.old }
-    requires places { 2 * store.now.count ≤ length places.old }
-    requires watchful { Watchful store.now index.old places.old values.old trail.old head 0 }
-    ensures goes { Advanced (held store.now) values.old values.new result }
-    ensures ready { Ready store.now values.new trail.new }
-    ensures watchful { result ≡ false → Watchful store.now index.new places.new values.new trail.new (head + 1) 0 }
-    ensures same { Same index.old index.new }
-    ensures room { length trail.new.literals.now ≡ length trail.old.literals.now }
-{
-    let mut link = index.heads[code_against(trail.literals[head])];
-    while link != 0 {
-        let entry = link as usize - 1;
-        link = index.next[entry];
-        let owner = index.owners[entry] as usize;
-        if visit(store, owner, values, places, index, trail) {
-            return true;
-        }
-    }
-    false
-}
+    ghost Keeps = { λ s x e ys t head. Watchful s x e.at.now ys t head 0 };
 
-/// Goes on from each literal of the trail.
-fn drain(
-    store: &Store,
-    values: &mut [Option<bool>],
-    places: &mut [u32],
-    index: &mut Index,
-    trail: &mut Trail,
-) -> bool
-    requires few { store.now.count < 2 ^ 32 }
-    requires ready { Ready store.now values.old trail.old }
-    requires places { 2 * store.now.count ≤ length places.old }
-    requires watchful { Watchful store.now index.old places.old values.old trail.old 0 0 }
-    ensures decides { Decides result (Refuted (held store.now) (values_of values.old)) }
-    ensures same { Same index.old index.new }
-    ensures room { length trail.new.literals.now ≡ length trail.old.literals.now }
-{
-    let mut head = 0;
-    while head < trail.tail {
-        if wake(store, head, values, places, index, trail) {
-            return true;
-        }
-        head += 1;
+    fn serves(&self) -> usize {
+        self.at.len() / 2
     }
-    false
-}
 
-/// Whether unit propagation from these values comes to a conflict.
-pub(crate) fn run(
-    store: &Store,
-    values: &mut [Option<bool>],
-    places: &mut [u32],
-    index: &mut Index,
-    trail: &mut Trail,
-) -> bool
-    requires few { store.now.count < 2 ^ 32 }
-    requires ready { Ready store.now values.old trail.old }
-    requires places { 2 * store.now.count ≤ length places.old }
-    requires heads { 2 * store.now.variables ≤ length index.old.heads.now - 2 }
-    requires next { store.now.filled ≤ length index.old.next.now }
-    requires owners { store.now.filled ≤ length index.old.owners.now }
-    ensures decides { Decides result (Refuted (held store.now) (values_of values.old)) }
-    ensures same { Same index.old index.new }
-    ensures room { length trail.new.literals.now ≡ length trail.old.literals.now }
-{
-    let wanted = 2 * store.variables as usize + 2;
-    index.clear(wanted.min(index.heads.len()));
-    if start(store, values, places, index, trail) {
-        return true;
+    /// Watches two literals of each clause.
+    fn start(
+        &mut self,
+        store: &Store,
+        values: &mut [Option<bool>],
+        index: &mut Index,
+        trail: &mut Trail,
+    ) -> Result<(), Conflict> {
+        let wanted = 2 * store.variables as usize + 2;
+        index.clear(wanted.min(index.heads.len()));
+        let places = &mut *self.at;
+        forget(places, 2 * store.count);
+        for k in 0..store.count {
+            visit(store, k, values, places, index, trail)?;
+        }
+        Ok(())
     }
-    drain(store, values, places, index, trail)
+
+    /// Visits each row that watches the literal's opposite.
+    fn wake(
+        &mut self,
+        store: &Store,
+        head: usize,
+        values: &mut [Option<bool>],
+        index: &mut Index,
+        trail: &mut Trail,
+    ) -> Result<(), Conflict> {
+        let places = &mut *self.at;
+        let mut link = index.heads[code_against(trail.literals[head])];
+        // A list is links in lent memory of plain numbers, so it is no iterator.
+        while link != 0 {
+            let entry = link as usize - 1;
+            link = index.next[entry];
+            let owner = index.owners[entry] as usize;
+            visit(store, owner, values, places, index, trail)?;
+        }
+        Ok(())
+    }
 }

@@ -1,148 +1,132 @@
-//! The two bases as subjects.
+//! Any clause base as a subject, and memory for small ones.
 use crate::log::Log;
-use crate::play::play;
 use crate::random::Random;
-use crate::subject::Subject;
+use crate::subject::{Calls, Subject, disturb, hint_some};
 use clauses::base::ClauseBase;
 use clauses::counting::Counting;
+use clauses::fault::{BaseFault, Hinted};
 use clauses::row::Row;
 use clauses::watched::Watched;
+use std::alloc::AllocError;
 
-/// Any base, lent.
+/// A base, lent.
 #[derive(Drop)]
-struct Driven<'b, B> {
-    base: &'b mut B,
+pub struct Driven<'b, B> {
+    pub base: &'b mut B,
 }
 
-fn hints<B: ClauseBase>(base: &mut B, random: &mut Random, log: &mut Log) {
-    let count = random.below(7);
-    for _ in 0..count {
-        match base.hint(random.below(24)) {
-            Ok(hinted) => log.hinted(hinted),
-            Err(fault) => log.fault(fault),
-        }
-        for variable in 0..9u32 {
-            log.value(base.value(variable));
-        }
+impl<B: ClauseBase> Calls for Driven<'_, B> {
+    fn clear(&mut self, variables: u32) -> Result<(), BaseFault> {
+        self.base.clear(variables)
     }
-}
 
-/// Calls that a trial stands in the way of.
-fn disturb<B: ClauseBase>(base: &mut B, clause: &[i32], log: &mut Log) {
-    match base.clear(3) {
-        Ok(()) => log.number(0),
-        Err(fault) => log.fault(fault),
+    fn add(&mut self, clause: &[i32]) -> Result<Result<u32, BaseFault>, AllocError> {
+        Ok(self.base.add(clause))
     }
-    match base.add(clause) {
-        Ok(number) => log.number(number),
-        Err(fault) => log.fault(fault),
-    }
-    match base.delete(1) {
-        Ok(()) => log.number(0),
-        Err(fault) => log.fault(fault),
-    }
-}
 
-fn answer<B: ClauseBase>(base: &mut B, log: &mut Log) {
-    match base.run() {
-        Ok(answer) => log.answer(answer),
-        Err(fault) => log.fault(fault),
+    fn delete(&mut self, number: u32) -> Result<(), BaseFault> {
+        self.base.delete(number)
     }
-}
 
-fn ask_all<B: ClauseBase>(base: &B, number: u32, log: &mut Log) {
-    log.number(base.variables());
-    log.number(base.next_number());
-    let room = base.room();
-    log.number(room.variables.min(1000) as u32);
-    log.number(room.clauses.min(1000) as u32);
-    log.number(room.literals.min(1000) as u32);
-    log.number(if base.is_live(number) { 1 } else { 0 });
+    fn hint(&mut self, number: u32) -> Result<Hinted, BaseFault> {
+        self.base.hint(number)
+    }
+
+    fn run(&mut self) -> Result<bool, BaseFault> {
+        self.base.run()
+    }
+
+    fn value(&self, variable: u32) -> Option<bool> {
+        self.base.value(variable)
+    }
 }
 
 impl<B: ClauseBase> Subject for Driven<'_, B> {
-    fn clear(&mut self, variables: u32, log: &mut Log) {
-        match self.base.clear(variables) {
-            Ok(()) => log.number(0),
-            Err(fault) => log.fault(fault),
-        }
-    }
-
-    fn add(&mut self, clause: &[i32], log: &mut Log) {
-        match self.base.add(clause) {
-            Ok(number) => log.number(number),
-            Err(fault) => log.fault(fault),
-        }
-    }
-
-    fn delete(&mut self, number: u32, log: &mut Log) {
-        match self.base.delete(number) {
-            Ok(()) => log.number(0),
-            Err(fault) => log.fault(fault),
-        }
-    }
-
-    fn trial(&mut self, clause: &[i32], random: &mut Random, log: &mut Log) {
-        answer(self.base, log);
-        match self.base.start(clause) {
-            Ok(mark) => {
-                hints(self.base, random, log);
-                disturb(self.base, clause, log);
-                answer(self.base, log);
-                answer(self.base, log);
-                self.base.finish(mark);
+    fn trial(
+        &mut self,
+        clause: &[i32],
+        random: &mut Random,
+        log: &mut Log,
+    ) -> Result<(), AllocError> {
+        log.answer(self.run());
+        let mark = match self.base.start(clause) {
+            Ok(mark) => mark,
+            Err(fault) => {
+                log.fault(fault);
+                return Ok(());
             }
-            Err(fault) => log.fault(fault),
-        }
+        };
+        hint_some(self, random, log);
+        let disturbed = disturb(self, clause, log);
+        log.answer(self.run());
+        log.answer(self.run());
+        self.base.finish(mark);
+        disturbed
     }
 
     fn ask(&self, number: u32, log: &mut Log) {
-        ask_all(self.base, number, log);
+        log.number(self.base.variables());
+        log.number(self.base.next_number());
+        let room = self.base.room();
+        log.number(room.variables.min(1000) as u32);
+        log.number(room.clauses.min(1000) as u32);
+        log.number(room.literals.min(1000) as u32);
+        log.number(u32::from(self.base.is_live(number)));
     }
 }
 
-pub fn play_counting(seed: u32, log: &mut Log) {
-    let mut rows = [Row::NONE; 13];
-    let mut literals = [0; 26];
-    let mut values = [None; 9];
-    let mut trail = [0; 9];
-    let mut heads = [0; 18];
-    let mut next = [0; 26];
-    let mut owners = [0; 26];
-    let mut left = [0; 13];
-    let mut base = Counting::new(
-        &mut rows,
-        &mut literals,
-        &mut values,
-        &mut trail,
-        &mut heads,
-        &mut next,
-        &mut owners,
-        &mut left,
-    );
-    let mut driven = Driven { base: &mut base };
-    play(&mut driven, seed, log);
+/// Memory for 8 variables, 13 clauses and 26 literals.
+#[derive(Drop)]
+pub struct Memory {
+    rows: [Row; 13],
+    literals: [i32; 26],
+    values: [Option<bool>; 9],
+    trail: [i32; 9],
+    heads: [u32; 18],
+    next: [u32; 26],
+    owners: [u32; 26],
+    scratch: [u32; 26],
 }
 
-pub fn play_watched(seed: u32, log: &mut Log) {
-    let mut rows = [Row::NONE; 13];
-    let mut literals = [0; 26];
-    let mut values = [None; 9];
-    let mut trail = [0; 9];
-    let mut heads = [0; 18];
-    let mut next = [0; 26];
-    let mut owners = [0; 26];
-    let mut places = [0; 26];
-    let mut base = Watched::new(
-        &mut rows,
-        &mut literals,
-        &mut values,
-        &mut trail,
-        &mut heads,
-        &mut next,
-        &mut owners,
-        &mut places,
-    );
-    let mut driven = Driven { base: &mut base };
-    play(&mut driven, seed, log);
+impl Memory {
+    pub fn new() -> Memory {
+        Memory {
+            rows: [Row::NONE; 13],
+            literals: [0; 26],
+            values: [None; 9],
+            trail: [0; 9],
+            heads: [0; 18],
+            next: [0; 26],
+            owners: [0; 26],
+            scratch: [0; 26],
+        }
+    }
+
+    pub fn counting(&mut self) -> Counting<'_> {
+        let Memory {
+            rows,
+            literals,
+            values,
+            trail,
+            heads,
+            next,
+            owners,
+            scratch,
+        } = self;
+        Counting::new(rows, literals, values, trail, heads, next, owners, scratch)
+    }
+
+    pub fn watched(&mut self) -> Watched<'_> {
+        let Memory {
+            rows,
+            literals,
+            values,
+            trail,
+            heads,
+            next,
+            owners,
+            scratch,
+        } = self;
+        Watched::new(rows, literals, values, trail, heads, next, owners, scratch)
+    }
 }

@@ -57,39 +57,57 @@ impl Log {
         }
     }
 
-    pub fn hinted(&mut self, hinted: Hinted) {
-        match hinted {
-            Hinted::Unit => {
-                self.number(1001);
-                self.units = self.units.wrapping_add(1);
-            }
-            Hinted::Conflict => {
-                self.number(1002);
-                self.conflicts = self.conflicts.wrapping_add(1);
-            }
-            Hinted::Useless => {
-                self.number(1003);
-                self.useless = self.useless.wrapping_add(1);
-            }
+    /// What a call answers that gives a number.
+    pub fn numbered(&mut self, answer: Result<u32, BaseFault>) {
+        match answer {
+            Ok(number) => self.number(number),
+            Err(fault) => self.fault(fault),
         }
     }
 
-    pub fn answer(&mut self, answer: bool) {
-        if answer {
-            self.number(1004);
-            self.yes = self.yes.wrapping_add(1);
-        } else {
-            self.number(1005);
-            self.no = self.no.wrapping_add(1);
+    /// What a call answers that gives nothing.
+    pub fn done(&mut self, answer: Result<(), BaseFault>) {
+        self.numbered(answer.map(|()| 0));
+    }
+
+    pub fn hinted(&mut self, answer: Result<Hinted, BaseFault>) {
+        match answer {
+            Ok(Hinted::Unit) => {
+                self.number(1001);
+                self.units = self.units.wrapping_add(1);
+            }
+            Ok(Hinted::Conflict) => {
+                self.number(1002);
+                self.conflicts = self.conflicts.wrapping_add(1);
+            }
+            Ok(Hinted::Useless) => {
+                self.number(1003);
+                self.useless = self.useless.wrapping_add(1);
+            }
+            Err(fault) => self.fault(fault),
+        }
+    }
+
+    pub fn answer(&mut self, answer: Result<bool, BaseFault>) {
+        match answer {
+            Ok(true) => {
+                self.number(1004);
+                self.yes = self.yes.wrapping_add(1);
+            }
+            Ok(false) => {
+                self.number(1005);
+                self.no = self.no.wrapping_add(1);
+            }
+            Err(fault) => self.fault(fault),
         }
     }
 
     pub fn value(&mut self, value: Option<bool>) {
-        match value {
-            None => self.number(1006),
-            Some(true) => self.number(1007),
-            Some(false) => self.number(1008),
-        }
+        self.number(match value {
+            None => 1006,
+            Some(true) => 1007,
+            Some(false) => 1008,
+        });
     }
 
     pub fn join(&mut self, other: &Log) {

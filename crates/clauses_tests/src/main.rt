@@ -8,41 +8,44 @@ mod play;
 mod random;
 mod subject;
 
-use bases::{play_counting, play_watched};
+use bases::{Driven, Memory};
+use clauses::base::ClauseBase;
 use log::Log;
-use plain::play_plain;
-use std::io;
+use plain::Plain;
+use play::play;
+use std::alloc::AllocError;
 
-fn main(rt: HostRuntime) -> io::Result<()> {
+/// What a base answers to the play of a seed.
+fn play_base<B: ClauseBase>(base: &mut B, seed: u32) -> Result<Log, AllocError> {
+    let mut log = Log::new();
+    play(&mut Driven { base }, seed, &mut log)?;
+    Ok(log)
+}
+
+fn main(rt: HostRuntime) -> anyhow::Result<()> {
     let mut differing = 0u32;
     let mut all = Log::new();
     for seed in 0..600u32 {
-        let mut counted = Log::new();
-        let mut watched = Log::new();
+        let mut memory = Memory::new();
+        let counted = play_base(&mut memory.counting(), seed)?;
+        let watched = play_base(&mut memory.watched(), seed)?;
         let mut plain = Log::new();
-        play_counting(seed, &mut counted);
-        play_watched(seed, &mut watched);
-        play_plain(seed, &mut plain);
+        play(&mut Plain::new(rt.alloc()), seed, &mut plain)?;
         if counted.differs(&plain) || watched.differs(&plain) {
             differing = differing.wrapping_add(1);
         }
         all.join(&plain);
     }
     println!(rt; "bases that differ: {differing}")?;
-    let calls = all.calls;
-    println!(rt; "answers compared: {calls}")?;
-    let yes = all.yes;
-    let no = all.no;
-    println!(rt; "runs: {yes} yes, {no} no")?;
-    let units = all.units;
-    let conflicts = all.conflicts;
-    let useless = all.useless;
-    println!(rt; "hints: {units} unit, {conflicts} conflict, {useless} useless")?;
-    let malformed = all.malformed;
-    let not_live = all.not_live;
-    let no_room = all.no_room;
-    let in_trial = all.in_trial;
+    println!(rt; "answers compared: {}", all.calls)?;
+    println!(rt; "runs: {} yes, {} no", all.yes, all.no)?;
     println!(rt;
-        "refused: {malformed} malformed, {not_live} not live, {no_room} no room, {in_trial} in trial"
-    )
+        "hints: {} unit, {} conflict, {} useless",
+        all.units, all.conflicts, all.useless
+    )?;
+    println!(rt;
+        "refused: {} malformed, {} not live, {} no room, {} in trial",
+        all.malformed, all.not_live, all.no_room, all.in_trial
+    )?;
+    Ok(())
 }

@@ -1,16 +1,17 @@
 //! A slow plain base: clauses as they were given, and propagation by scans of all of them.
 use crate::log::Log;
-use crate::play::play;
 use crate::random::Random;
-use crate::subject::Subject;
+use crate::subject::{Calls, Subject, disturb, hint_some};
 use clauses::fault::{BaseFault, Hinted};
+use std::alloc::{AllocError, Global};
+use std::collections::BTreeMap;
 
-#[derive(Clone, Copy)]
-struct Entry {
-    number: u32,
-    len: usize,
-    literals: [i32; 4],
-}
+/// The most variables, clauses and literals.
+const VARIABLES: u32 = 8;
+
+const CLAUSES: u32 = 13;
+
+const LITERALS: u32 = 26;
 
 #[derive(Clone, Copy, PartialEq, Eq)]
 enum Stage {
@@ -20,304 +21,228 @@ enum Stage {
 }
 
 #[derive(Drop)]
-struct Plain {
+pub struct Plain {
+    alloc: Global,
     variables: u32,
     next: u32,
-    entries: [Option<Entry>; 200],
+    clauses: BTreeMap<u32, Vec<i32>>,
     values: [Option<bool>; 10],
     stage: Stage,
 }
 
-fn at(values: &[Option<bool>], i: usize) -> Option<bool> {
-    match values.get(i) {
-        Some(v) => *v,
-        None => None,
-    }
-}
-
-fn put(values: &mut [Option<bool>], i: usize, value: Option<bool>) {
-    if i < values.len() {
-        values[i] = value;
-    }
-}
-
-fn worth(values: &[Option<bool>], literal: i32) -> Option<bool> {
-    match at(values, literal.unsigned_abs() as usize) {
-        Some(b) => Some(if literal > 0 { b } else { !b }),
-        None => None,
-    }
-}
-
-/// What a clause says: how many literals are true, how many are unset, and the last that is.
+/// What a clause says under the values.
 #[derive(Clone, Copy)]
-struct Said {
-    good: u32,
-    unset: u32,
-    last: i32,
+enum Said {
+    /// All literals are false.
+    Conflict,
+    /// This one is unset, and the others are false.
+    Forced(i32),
+    /// One is true, or two are unset.
+    Nothing,
 }
 
-fn say(values: &[Option<bool>], entry: &Entry) -> Said {
-    let mut said = Said {
-        good: 0,
-        unset: 0,
-        last: 0,
-    };
-    for literal in entry.literals.iter().take(entry.len) {
-        match worth(values, *literal) {
-            Some(true) => said.good = said.good.wrapping_add(1),
-            Some(false) => {}
-            None => {
-                said.unset = said.unset.wrapping_add(1);
-                said.last = *literal;
-            }
-        }
+fn say(values: &[Option<bool>], clause: &[i32]) -> Said {
+    let mut said = Said::Conflict;
+    for literal in clause {
+        let value = values
+            .get(literal.unsigned_abs() as usize)
+            .copied()
+            .flatten();
+        said = match (value, said) {
+            (Some(truth), said) if truth != (*literal > 0) => said,
+            (None, Said::Conflict) => Said::Forced(*literal),
+            _ => return Said::Nothing,
+        };
     }
     said
 }
 
 fn make(values: &mut [Option<bool>], literal: i32, truth: bool) {
-    let value = if literal > 0 { truth } else { !truth };
-    put(values, literal.unsigned_abs() as usize, Some(value));
-}
-
-/// One scan of all clauses: a conflict, or nothing, or a literal that is forced.
-fn scan(entries: &[Option<Entry>], values: &[Option<bool>]) -> (bool, i32) {
-    let mut forced = 0;
-    for slot in entries {
-        if let Some(entry) = slot {
-            let said = say(values, entry);
-            if said.good == 0 && said.unset == 0 {
-                return (true, 0);
-            }
-            if said.good == 0 && said.unset == 1 {
-                forced = said.last;
-            }
-        }
+    if let Some(value) = values.get_mut(literal.unsigned_abs() as usize) {
+        *value = Some((literal > 0) == truth);
     }
-    (false, forced)
-}
-
-fn follows(entries: &[Option<Entry>], values: &mut [Option<bool>]) -> bool {
-    for _ in 0..20 {
-        let (conflict, forced) = scan(entries, values);
-        if conflict {
-            return true;
-        }
-        if forced == 0 {
-            return false;
-        }
-        make(values, forced, true);
-    }
-    false
 }
 
 fn is_bad(clause: &[i32], variables: u32) -> bool {
-    for (i, literal) in clause.iter().enumerate() {
-        if *literal == 0 || literal.unsigned_abs() > variables {
+    for (place, literal) in clause.iter().enumerate() {
+        let variable = literal.unsigned_abs();
+        let is_repeated = clause[..place]
+            .iter()
+            .any(|other| other.unsigned_abs() == variable);
+        if variable == 0 || variable > variables || is_repeated {
             return true;
-        }
-        for other in clause.iter().take(i) {
-            if other.unsigned_abs() == literal.unsigned_abs() {
-                return true;
-            }
         }
     }
     false
 }
 
 impl Plain {
-    fn live(&self) -> (u32, usize) {
-        let mut count = 0u32;
-        let mut literals = 0usize;
-        for slot in self.entries.iter() {
-            if let Some(entry) = slot {
-                count = count.wrapping_add(1);
-                literals = literals.wrapping_add(entry.len);
-            }
+    pub fn new(alloc: Global) -> Plain {
+        Plain {
+            alloc,
+            variables: 0,
+            next: 1,
+            clauses: BTreeMap::new(alloc),
+            values: [None; 10],
+            stage: Stage::Idle,
         }
-        (count, literals)
     }
 
-    fn find(&self, number: u32) -> Option<Entry> {
-        for slot in self.entries.iter() {
-            if let Some(entry) = slot {
-                if entry.number == number {
-                    return Some(*entry);
-                }
-            }
+    fn check_idle(&self) -> Result<(), BaseFault> {
+        if self.stage == Stage::Idle {
+            Ok(())
+        } else {
+            Err(BaseFault::InTrial)
         }
-        None
     }
 
-    fn insert(&mut self, clause: &[i32]) -> Result<u32, BaseFault> {
-        if self.stage != Stage::Idle {
-            return Err(BaseFault::InTrial);
+    fn check_open(&self) -> Result<(), BaseFault> {
+        if self.stage == Stage::Open {
+            Ok(())
+        } else {
+            Err(BaseFault::InTrial)
         }
+    }
+
+    /// Whether a clause may be added, and under which number.
+    fn check_clause(&self, clause: &[i32]) -> Result<u32, BaseFault> {
+        self.check_idle()?;
         if is_bad(clause, self.variables) {
             return Err(BaseFault::Malformed);
         }
-        let (count, literals) = self.live();
-        if count >= 13 || literals.wrapping_add(clause.len()) > 26 {
+        let mut literals = clause.len();
+        for live in self.clauses.values() {
+            literals = literals.saturating_add(live.len());
+        }
+        if self.clauses.len() >= CLAUSES as usize || literals > LITERALS as usize {
             return Err(BaseFault::NoRoom);
         }
-        let mut entry = Entry {
-            number: self.next,
-            len: clause.len(),
-            literals: [0; 4],
-        };
-        for (place, literal) in entry.literals.iter_mut().zip(clause.iter()) {
-            *place = *literal;
-        }
-        let slot = self.next as usize;
-        if slot < self.entries.len() {
-            self.entries[slot] = Some(entry);
-        }
-        let number = self.next;
-        self.next = self.next.wrapping_add(1);
-        Ok(number)
+        Ok(self.next)
     }
 
-    fn remove(&mut self, number: u32) -> Result<(), BaseFault> {
-        if self.stage != Stage::Idle {
-            return Err(BaseFault::InTrial);
+    /// One scan of all clauses: a conflict, or the last literal that is forced, or nothing.
+    fn scan(&self) -> Said {
+        let mut found = Said::Nothing;
+        for clause in self.clauses.values() {
+            match say(&self.values, clause) {
+                Said::Conflict => return Said::Conflict,
+                Said::Forced(literal) => found = Said::Forced(literal),
+                Said::Nothing => {}
+            }
         }
-        let slot = number as usize;
-        if slot < self.entries.len() && self.entries[slot].is_some() {
-            self.entries[slot] = None;
-            return Ok(());
-        }
-        Err(BaseFault::NotLive)
+        found
     }
 
-    fn empty(&mut self, variables: u32) -> Result<(), BaseFault> {
-        if self.stage != Stage::Idle {
-            return Err(BaseFault::InTrial);
+    /// Whether scans come to a conflict; each makes a literal true, of which there are fewer than 20.
+    fn propagate(&mut self) -> bool {
+        for _ in 0..20 {
+            match self.scan() {
+                Said::Conflict => return true,
+                Said::Forced(literal) => make(&mut self.values, literal, true),
+                Said::Nothing => return false,
+            }
         }
-        if variables > 8 {
+        false
+    }
+}
+
+impl Calls for Plain {
+    fn clear(&mut self, variables: u32) -> Result<(), BaseFault> {
+        self.check_idle()?;
+        if variables > VARIABLES {
             return Err(BaseFault::NoRoom);
         }
         self.variables = variables;
         self.next = 1;
-        self.entries = [None; 200];
+        self.clauses.clear();
         Ok(())
     }
 
-    fn hint(&mut self, number: u32) -> Result<Hinted, BaseFault> {
-        if self.stage != Stage::Open {
-            return Err(BaseFault::InTrial);
-        }
-        match self.find(number) {
+    fn add(&mut self, clause: &[i32]) -> Result<Result<u32, BaseFault>, AllocError> {
+        let number = match self.check_clause(clause) {
+            Ok(number) => number,
+            Err(fault) => return Ok(Err(fault)),
+        };
+        let mut literals = Vec::new(self.alloc);
+        literals.extend_from_slice(clause)?;
+        self.clauses.insert(number, literals)?;
+        self.next = number.wrapping_add(1);
+        Ok(Ok(number))
+    }
+
+    fn delete(&mut self, number: u32) -> Result<(), BaseFault> {
+        self.check_idle()?;
+        match self.clauses.remove(&number) {
+            Some(_) => Ok(()),
             None => Err(BaseFault::NotLive),
-            Some(entry) => {
-                let said = say(&self.values, &entry);
-                if said.good == 0 && said.unset == 0 {
-                    self.stage = Stage::Answered;
-                    return Ok(Hinted::Conflict);
-                }
-                if said.good == 0 && said.unset == 1 {
-                    make(&mut self.values, said.last, true);
-                    return Ok(Hinted::Unit);
-                }
-                Ok(Hinted::Useless)
+        }
+    }
+
+    fn hint(&mut self, number: u32) -> Result<Hinted, BaseFault> {
+        self.check_open()?;
+        let said = match self.clauses.get(&number) {
+            Some(clause) => say(&self.values, clause),
+            None => return Err(BaseFault::NotLive),
+        };
+        match said {
+            Said::Conflict => {
+                self.stage = Stage::Answered;
+                Ok(Hinted::Conflict)
             }
+            Said::Forced(literal) => {
+                make(&mut self.values, literal, true);
+                Ok(Hinted::Unit)
+            }
+            Said::Nothing => Ok(Hinted::Useless),
         }
     }
 
     fn run(&mut self) -> Result<bool, BaseFault> {
-        if self.stage != Stage::Open {
-            return Err(BaseFault::InTrial);
-        }
+        self.check_open()?;
         self.stage = Stage::Answered;
-        Ok(follows(&self.entries, &mut self.values))
+        Ok(self.propagate())
     }
 
-    fn hints(&mut self, random: &mut Random, log: &mut Log) {
-        let count = random.below(7);
-        for _ in 0..count {
-            match self.hint(random.below(24)) {
-                Ok(hinted) => log.hinted(hinted),
-                Err(fault) => log.fault(fault),
-            }
-            for variable in 0..9usize {
-                log.value(if self.stage == Stage::Open {
-                    at(&self.values, variable)
-                } else {
-                    None
-                });
-            }
-        }
-    }
-
-    fn answer(&mut self, log: &mut Log) {
-        match self.run() {
-            Ok(answer) => log.answer(answer),
-            Err(fault) => log.fault(fault),
+    fn value(&self, variable: u32) -> Option<bool> {
+        if self.stage == Stage::Open {
+            self.values.get(variable as usize).copied().flatten()
+        } else {
+            None
         }
     }
 }
 
 impl Subject for Plain {
-    fn clear(&mut self, variables: u32, log: &mut Log) {
-        match self.empty(variables) {
-            Ok(()) => log.number(0),
-            Err(fault) => log.fault(fault),
-        }
-    }
-
-    fn add(&mut self, clause: &[i32], log: &mut Log) {
-        match self.insert(clause) {
-            Ok(number) => log.number(number),
-            Err(fault) => log.fault(fault),
-        }
-    }
-
-    fn delete(&mut self, number: u32, log: &mut Log) {
-        match self.remove(number) {
-            Ok(()) => log.number(0),
-            Err(fault) => log.fault(fault),
-        }
-    }
-
-    fn trial(&mut self, clause: &[i32], random: &mut Random, log: &mut Log) {
-        self.answer(log);
+    fn trial(
+        &mut self,
+        clause: &[i32],
+        random: &mut Random,
+        log: &mut Log,
+    ) -> Result<(), AllocError> {
+        log.answer(self.run());
         if is_bad(clause, self.variables) {
             log.fault(BaseFault::Malformed);
-            return;
+            return Ok(());
         }
         self.values = [None; 10];
         for literal in clause {
             make(&mut self.values, *literal, false);
         }
         self.stage = Stage::Open;
-        self.hints(random, log);
-        log.fault(BaseFault::InTrial);
-        log.fault(BaseFault::InTrial);
-        log.fault(BaseFault::InTrial);
-        self.answer(log);
-        self.answer(log);
+        hint_some(self, random, log);
+        disturb(self, clause, log)?;
+        log.answer(self.run());
+        log.answer(self.run());
         self.stage = Stage::Idle;
+        Ok(())
     }
 
     fn ask(&self, number: u32, log: &mut Log) {
         log.number(self.variables);
         log.number(self.next);
-        log.number(8);
-        log.number(13);
-        log.number(26);
-        log.number(match self.find(number) {
-            Some(_) => 1,
-            None => 0,
-        });
+        log.number(VARIABLES);
+        log.number(CLAUSES);
+        log.number(LITERALS);
+        log.number(u32::from(self.clauses.contains_key(&number)));
     }
-}
-
-pub fn play_plain(seed: u32, log: &mut Log) {
-    let mut plain = Plain {
-        variables: 0,
-        next: 1,
-        entries: [None; 200],
-        values: [None; 10],
-        stage: Stage::Idle,
-    };
-    play(&mut plain, seed, log);
 }

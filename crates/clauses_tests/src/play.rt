@@ -1,48 +1,53 @@
 //! A play: calls that depend on the seed alone.
+ghost use Rattle.std.specs.Prelude.{◌≤◌};
+
 use crate::log::Log;
 use crate::random::Random;
 use crate::subject::Subject;
+use std::alloc::AllocError;
 
-/// Writes a clause of at most four literals, which now and then is none, and says how many there are.
-fn draw(random: &mut Random, clause: &mut [i32; 4]) -> usize {
-    let len = if random.below(16) == 0 {
+/// How many literals a clause has: now and then none, else one to four.
+fn draw_length(random: &mut Random) -> usize
+    ensures { result ≤ 4 }
+{
+    if random.below(16) == 0 {
         0
     } else {
         random.below(4) as usize + 1
-    };
-    for literal in clause.iter_mut() {
-        let kind = random.below(40);
-        let variable = random.below(8) as i32;
-        *literal = if kind == 0 {
-            0
-        } else if kind == 1 {
-            9
-        } else if random.below(2) == 0 {
-            variable + 1
-        } else {
-            -variable - 1
-        };
     }
-    len
 }
 
-fn turn<S: Subject>(subject: &mut S, random: &mut Random, log: &mut Log) {
-    let mut clause = [0; 4];
-    let len = draw(random, &mut clause).min(4);
+/// A literal: now and then 0, now and then of a variable that may be too high.
+fn draw_literal(random: &mut Random) -> i32 {
+    let kind = random.below(40);
+    let variable = random.below(8) as i32;
+    match kind {
+        0 => 0,
+        1 => 9,
+        _ if random.below(2) == 0 => variable + 1,
+        _ => -variable - 1,
+    }
+}
+
+fn turn<S: Subject>(subject: &mut S, random: &mut Random, log: &mut Log) -> Result<(), AllocError> {
+    let length = draw_length(random);
+    let mut literals = [0; 4];
+    for literal in literals.iter_mut() {
+        *literal = draw_literal(random);
+    }
+    let clause = &literals[..length];
     let kind = random.below(16);
     let number = random.below(24);
-    if kind < 8 {
-        subject.add(&clause[0..len], log);
-    } else if kind < 11 {
-        subject.delete(number, log);
-    } else if kind < 15 {
-        subject.trial(&clause[0..len], random, log);
-    } else {
-        subject.ask(number, log);
+    match kind {
+        0..8 => log.numbered(subject.add(clause)?),
+        8..11 => log.done(subject.delete(number)),
+        11..15 => subject.trial(clause, random, log)?,
+        _ => subject.ask(number, log),
     }
+    Ok(())
 }
 
-pub fn play<S: Subject>(subject: &mut S, seed: u32, log: &mut Log) {
+pub fn play<S: Subject>(subject: &mut S, seed: u32, log: &mut Log) -> Result<(), AllocError> {
     let mut random = Random::new(seed);
     for _ in 0..3 {
         let variables = if random.below(4) == 0 {
@@ -50,9 +55,10 @@ pub fn play<S: Subject>(subject: &mut S, seed: u32, log: &mut Log) {
         } else {
             8
         };
-        subject.clear(variables, log);
+        log.done(subject.clear(variables));
         for _ in 0..60 {
-            turn(subject, &mut random, log);
+            turn(subject, &mut random, log)?;
         }
     }
+    Ok(())
 }

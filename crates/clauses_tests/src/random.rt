@@ -1,5 +1,5 @@
 //! Numbers that look random, the same in each run.
-ghost use Rattle.std.specs.Prelude.{◌≤◌};
+ghost use Rattle.std.specs.Prelude.{◌<◌, ◌≤◌};
 
 #[derive(Drop)]
 pub struct Random {
@@ -26,7 +26,8 @@ impl Random {
 
     /// A number below n, or 0.
     pub fn below(&mut self, n: u32) -> u32
-        ensures { result ≤ n }
+        ensures most { result ≤ n }
+        ensures below { 0 < n → result < n }
     {
         let x = self.next();
         if n == 0 { 0 } else { x % n }

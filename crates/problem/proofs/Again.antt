@@ -1,7 +1,8 @@
 -- Loops over rows that look for a row that was there before.
-use Rattle.std.proofs.Common.{◌≡◌, ℕ, ◌+◌, ◌-◌, ◌<◌, ◌≤◌, Bool, true, false, cond, ◌||◌, List, [], ◌∷◌, ◌++◌, map, length, get_or, take, drop, Some, None, Option, sym, refl, ap, ◌∙◌, arith}
-use Rattle.std.proofs.lemmas.List.{drop_more, drop_all, take_more, map_push}
+use Rattle.std.proofs.Common.{◌≡◌, ℕ, Bool, true, false, cond, ◌||◌, List, [], ◌∷◌, ◌++◌, map, Some, None, Option, sym, refl, ap, ◌∙◌, arith}
+use Rattle.std.proofs.lemmas.List.{map_push}
 use Rattle.std.proofs.lemmas.Bool.{or_parts}
+use Rattle.std.specs.List.{list_any}
 use Rattle.text.specs.Lists.{some, Each}
 use Rattle.problem.specs.Reading.{repeated, same_given}
 use Rattle.problem.specs.Repeats.{repeated_in}
@@ -10,47 +11,10 @@ use Rattle.problem.specs.Sections.{given_of}
 use Rattle.problem.specs.declared.rows.ConstraintRow.{ConstraintRow}
 use Rattle.problem.specs.declared.rows.PackageRow.{PackageRow}
 
-dropped : (ys : List PackageRow) (i : ℕ) (y : PackageRow) → i < length ys → y ≡ get_or ys i y → drop i ys ≡ y ∷ drop (i + 1) ys
-dropped ys i y lt q = drop_more ys i y lt ∙ ap (λ t. t ∷ drop (i + 1) ys) (sym q)
-
--- whether one of those left passes a test
-abbrev pub Among : (PackageRow → Bool) → List PackageRow → ℕ → Type 0
-Among t ys i = some t (drop i ys) ≡ some t ys
-
-pub among_found : (t : PackageRow → Bool) (ys : List PackageRow) (i : ℕ) (y : PackageRow) → i < length ys → y ≡ get_or ys i y → t y ≡ true → Among t ys i → true ≡ some t ys
-among_found t ys i y lt q e h =
-    let s : some t (y ∷ drop (i + 1) ys) ≡ true = rw e refl in
-    sym s ∙ ap (some t) (sym (dropped ys i y lt q)) ∙ h
-
-pub among_more : (t : PackageRow → Bool) (ys : List PackageRow) (i : ℕ) (y : PackageRow) → i < length ys → y ≡ get_or ys i y → t y ≡ false → Among t ys i → Among t ys (i + 1)
-among_more t ys i y lt q e h =
-    let s : some t (y ∷ drop (i + 1) ys) ≡ some t (drop (i + 1) ys) = rw e refl in
-    sym s ∙ ap (some t) (sym (dropped ys i y lt q)) ∙ h
-
-pub among_none : (t : PackageRow → Bool) (ys : List PackageRow) (i : ℕ) → length ys ≤ i → Among t ys i → false ≡ some t ys
-among_none t ys i le h = ap (some t) (sym (drop_all i ys le)) ∙ h
-
-abbrev pub Fresh : List ℕ → List PackageRow → ℕ → Type 0
-Fresh text ys i = repeated_in text (take i ys) (drop i ys) ≡ repeated_in text [] ys
-
-pub fresh_found : (text : List ℕ) (ys : List PackageRow) (i : ℕ) (d : PackageRow) → i < length ys → some (λ x. same_stanza text x (get_or ys i d)) (take (i - 0) ys) ≡ true → Fresh text ys i → Some (get_or ys i d).line ≡ repeated_in text [] ys
-fresh_found text ys i d lt e h =
-    let y = get_or ys i d in
-    let z : i - 0 ≡ i = omega arith in
-    let f : some (λ x. same_stanza text x y) (take i ys) ≡ true = rw z at e in
-    let s : repeated_in text (take i ys) (y ∷ drop (i + 1) ys) ≡ Some y.line = rw f refl in
-    sym s ∙ ap (repeated_in text (take i ys)) (sym (drop_more ys i d lt)) ∙ h
-
-pub fresh_more : (text : List ℕ) (ys : List PackageRow) (i : ℕ) (d : PackageRow) → i < length ys → some (λ x. same_stanza text x (get_or ys i d)) (take (i - 0) ys) ≡ false → Fresh text ys i → Fresh text ys (i + 1)
-fresh_more text ys i d lt e h =
-    let y = get_or ys i d in
-    let z : i - 0 ≡ i = omega arith in
-    let f : some (λ x. same_stanza text x y) (take i ys) ≡ false = rw z at e in
-    let s : repeated_in text (take i ys) (y ∷ drop (i + 1) ys) ≡ repeated_in text (take i ys ++ y ∷ []) (drop (i + 1) ys) = rw f refl in
-    ap (λ u. repeated_in text u (drop (i + 1) ys)) (take_more ys i d lt) ∙ sym s ∙ ap (repeated_in text (take i ys)) (sym (drop_more ys i d lt)) ∙ h
-
-pub fresh_none : (text : List ℕ) (ys : List PackageRow) (i : ℕ) → length ys ≤ i → Fresh text ys i → None ≡ repeated_in text [] ys
-fresh_none text ys i le h = ap (repeated_in text (take i ys)) (sym (drop_all i ys le)) ∙ h
+-- what `any` answers
+pub any_some : {X : Type 0} (t : X → Bool) (xs : List X) → list_any t xs ≡ some t xs
+any_some t [] = refl
+any_some t (x ∷ xs) = ap (λ b. t x || b) (any_some t xs)
 
 -- the same in words
 some_words : (text : List ℕ) (cs : List ConstraintRow) (x : PackageRow) (ys : List PackageRow) → some (λ y. same_given y (given_of text cs x)) (map (given_of text cs) ys) ≡ some (λ y. same_stanza text y x) ys

@@ -1,33 +1,22 @@
 -- A stanza over one line: what was read of it before stays as it was.
-use Rattle.std.proofs.Common.{◌≡◌, ℕ, ◌+◌, ◌-◌, ◌≤◌, true, false, List, length, take, drop, is_some, IfSome, IfOk, Some, None, Ok, Err, Option, Result, sym, refl, ap, ◌∙◌, arith}
+use Rattle.std.proofs.Common.{◌≡◌, ℕ, ◌+◌, ◌-◌, ◌≤◌, false, List, length, take, drop, is_some, IsOkAnd, MatchResult, IfSome, IfOk, Some, None, Ok, Err, Option, Result, sym, refl, ap, ◌∙◌, arith}
 use Rattle.std.proofs.lemmas.List.{take-take, drop-take}
 use Rattle.std.specs.Option.{option_map}
 use Rattle.text.specs.Lists.{each}
-use Rattle.text.specs.Rows.{items}
-use Rattle.text.specs.declared.rows.Rows.{Rows}
 use Rattle.problem.specs.ConstraintLists.{once, listed, conjoined, constraint_list, conjunct_list}
 use Rattle.problem.specs.Cudf.{Constraint}
 use Rattle.problem.specs.Drafts.{Drafted, Sought, draft_at, sought_of, sought_at, then, extended_by, requested_by, DraftOk, WantedOk}
-use Rattle.problem.specs.Growth.{ok_mapped, Grown, SpanOf}
-use Rattle.problem.specs.Heads.{Begun, head_of, versioned, marked, HeadOk}
-use Rattle.problem.specs.Keys.{truth}
+use Rattle.problem.specs.Growth.{ok_mapped}
+use Rattle.problem.specs.Heads.{head_of}
 use Rattle.problem.specs.Meaning.{list_of, conjuncts_of, conjuncts, constraint_of}
 use Rattle.problem.specs.Rows.{span_in, Spanned}
-use Rattle.problem.specs.Words.{version}
 use Rattle.problem.specs.declared.draft.Draft.{Draft}
-use Rattle.problem.specs.declared.head.Head.{Head}
 use Rattle.problem.specs.declared.wanted.Wanted.{Wanted}
 use Rattle.problem.specs.declared.fault.ProblemFault.{ProblemFault}
-use Rattle.problem.specs.declared.fault.ProblemFault.TheVariants.{Property}
-use Rattle.problem.specs.declared.keys.PackageKey.TheVariants.{Version, Depends, Conflicts, Installed}
+use Rattle.problem.specs.declared.keys.PackageKey.TheVariants.{Depends, Conflicts}
 use Rattle.problem.specs.declared.keys.RequestKey.TheVariants.{Install, Remove}
 use Rattle.problem.specs.declared.rows.ConstraintRow.{ConstraintRow}
 use Rattle.problem.specs.declared.rows.Span.{Span}
-use Rattle.problem.proofs.Growing.{front_short}
-
-pub once_some : {X Y : Type 0} (n : ℕ) (o : Option X) (r : Result Y ProblemFault) → is_some o ≡ true → Err (Property n) ≡ once n o r
-once_some n (Some x) r e = refl
-once_some n None r e = absurd (let z : ◌≡◌ {A = ℕ} 0 1 = cc in omega arith)
 
 pub once_none : {X Y : Type 0} (n : ℕ) (o : Option X) {q r : Result Y ProblemFault} → is_some o ≡ false → q ≡ r → q ≡ once n o r
 once_none n (Some x) e h = absurd (let z : ◌≡◌ {A = ℕ} 0 1 = cc in omega arith)
@@ -40,6 +29,12 @@ once_mapped n f None r = refl
 once-then : {X Y Z : Type 0} (n : ℕ) (o : Option X) (r : Result Y ProblemFault) (f : Y → Result Z ProblemFault) → then (once n o r) f ≡ once n o (then r f)
 once-then n (Some x) r f = refl
 once-then n None r f = refl
+
+-- what `map` answers, by what its closure does to each value
+pub mapped_is : {X Y F : Type 0} {P : X → Y → Type 0} (f : X → Y) (r : Result X F) (s : Result Y F) → MatchResult r (λ x. IsOkAnd s (P x)) (λ e. s ≡ Err e) → ((x : X) (y : Y) → P x y → y ≡ f x) → s ≡ ok_mapped f r
+mapped_is f (Ok x) (Ok y) h g = ap Ok (g x y h)
+mapped_is f (Ok x) (Err e) h g = absurd h
+mapped_is f (Err e) s h g = h
 
 -- rows that grow leave a run among them as it was
 pub span_stays : {X : Type 0} (xs ys : List X) (s : Span) → Spanned (length xs) s → take (length xs) ys ≡ xs → span_in ys s ≡ span_in xs s
@@ -121,42 +116,7 @@ pub spanned_more : (m n : ℕ) (o : Option Span) → m ≤ n → IfSome o (Spann
 spanned_more m n None h i = tt
 spanned_more m n (Some s) h i = omega arith
 
-pub head_version_is : (text : List ℕ) (cs : List ConstraintRow) (d : Draft) (limit n : ℕ) (v : List ℕ) (r : Result Head ProblemFault) → ok_mapped (head_of text) r ≡ versioned n (head_of text d.head) d.head.version (version v) → ok_mapped (draft_at text cs) (ok_mapped (λ h. record { head = h; depends = d.depends; conflicts = d.conflicts }) r) ≡ extended_by limit n (draft_at text cs d) v (Some Version)
-head_version_is text cs d limit n v r h = at r ∙ ap (λ x. then x after) h
-  where
-    after : Begun → Result (Drafted × ℕ) ProblemFault
-    after b = Ok (record { head = b; depends = option_map (conjuncts_of text cs) d.depends; conflicts = option_map (list_of text cs) d.conflicts }, length cs)
-
-    at : (r : Result Head ProblemFault) → ok_mapped (draft_at text cs) (ok_mapped (λ h. record { head = h; depends = d.depends; conflicts = d.conflicts }) r) ≡ then (ok_mapped (head_of text) r) after
-    at (Ok s) = refl
-    at (Err e) = refl
-
-pub head_installed_is : (text : List ℕ) (cs : List ConstraintRow) (d : Draft) (limit n : ℕ) (v : List ℕ) (r : Result Head ProblemFault) → ok_mapped (head_of text) r ≡ marked n (head_of text d.head) d.head.installed (truth v) → ok_mapped (draft_at text cs) (ok_mapped (λ h. record { head = h; depends = d.depends; conflicts = d.conflicts }) r) ≡ extended_by limit n (draft_at text cs d) v (Some Installed)
-head_installed_is text cs d limit n v r h = at r ∙ ap (λ x. then x after) h
-  where
-    after : Begun → Result (Drafted × ℕ) ProblemFault
-    after b = Ok (record { head = b; depends = option_map (conjuncts_of text cs) d.depends; conflicts = option_map (list_of text cs) d.conflicts }, length cs)
-
-    at : (r : Result Head ProblemFault) → ok_mapped (draft_at text cs) (ok_mapped (λ h. record { head = h; depends = d.depends; conflicts = d.conflicts }) r) ≡ then (ok_mapped (head_of text) r) after
-    at (Ok s) = refl
-    at (Err e) = refl
-
 -- what holds of a stanza after the line
 pub made_mapped : {X Y F : Type 0} (P : X → Type 0) (Q : Y → Type 0) (f : X → Y) (r : Result X F) → ((x : X) → P x → Q (f x)) → IfOk r P → IfOk (ok_mapped f r) Q
 made_mapped P Q f (Ok x) g h = g x h
 made_mapped P Q f (Err e) g h = tt
-
-pub depends_good : (text : List ℕ) (a b : Rows ConstraintRow) (d : Draft) (s : Span) → DraftOk (length text) (length (items a)) d → Grown text a b → SpanOf a b s → DraftOk (length text) (length (items b)) (record { head = d.head; depends = Some s; conflicts = d.conflicts })
-depends_good text a b d s i g p = record { head = i.head; depends = omega (arith, p.end); conflicts = spanned_more (length (items a)) (length (items b)) d.conflicts (front_short (items a) (items b) g.front) i.conflicts }
-
-pub conflicts_good : (text : List ℕ) (a b : Rows ConstraintRow) (d : Draft) (s : Span) → DraftOk (length text) (length (items a)) d → Grown text a b → SpanOf a b s → DraftOk (length text) (length (items b)) (record { head = d.head; depends = d.depends; conflicts = Some s })
-conflicts_good text a b d s i g p = record { head = i.head; depends = spanned_more (length (items a)) (length (items b)) d.depends (front_short (items a) (items b) g.front) i.depends; conflicts = omega (arith, p.end) }
-
-pub head_good : (bytes count : ℕ) (d : Draft) (h : Head) → DraftOk bytes count d → HeadOk bytes h → DraftOk bytes count (record { head = h; depends = d.depends; conflicts = d.conflicts })
-head_good bytes count d h i p = record { head = p; depends = i.depends; conflicts = i.conflicts }
-
-pub install_good : (text : List ℕ) (a b : Rows ConstraintRow) (w : Wanted) (s : Span) → WantedOk (length (items a)) w → Grown text a b → SpanOf a b s → WantedOk (length (items b)) (record { install = Some s; remove = w.remove })
-install_good text a b w s i g p = record { install = omega (arith, p.end); remove = spanned_more (length (items a)) (length (items b)) w.remove (front_short (items a) (items b) g.front) i.remove }
-
-pub remove_good : (text : List ℕ) (a b : Rows ConstraintRow) (w : Wanted) (s : Span) → WantedOk (length (items a)) w → Grown text a b → SpanOf a b s → WantedOk (length (items b)) (record { install = w.install; remove = Some s })
-remove_good text a b w s i g p = record { install = spanned_more (length (items a)) (length (items b)) w.install (front_short (items a) (items b) g.front) i.install; remove = omega (arith, p.end) }

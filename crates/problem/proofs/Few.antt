@@ -6,8 +6,7 @@ use Rattle.text.specs.Lists.{each, each_all, keep, some, Each}
 use Rattle.text.specs.Literals.{Clause, neg}
 use Rattle.text.proofs.Members.{each_since, each_weaker}
 use Rattle.problem.specs.Cudf.{Package, Constraint, Numbered, numbered, stanzas, satisfies_one}
-use Rattle.text.specs.Pieces.{front}
-use Rattle.problem.specs.Meaning.{conjuncts, constraint_of, package_of, packages_in, constraints_in, problem_of}
+use Rattle.problem.specs.Meaning.{front, conjuncts, constraint_of, package_of, packages_in, constraints_in, problem_of}
 use Rattle.problem.specs.PlanClauses.{put, needs, meeting, not_both, of_conflict, of_stanza, of_install, of_remove, plan_clauses}
 use Rattle.problem.specs.Rows.{span_in}
 use Rattle.problem.specs.declared.rows.Span.{Span}

@@ -10,9 +10,6 @@ use Rattle.problem.specs.Growth.{Grown}
 use Rattle.problem.specs.Rows.{ConstraintOk}
 use Rattle.problem.specs.declared.rows.ConstraintRow.{ConstraintRow}
 
-pub grown_none : (text : List ℕ) (r : Rows ConstraintRow) → Grown text r r
-grown_none text r = record { front = take_all (length (items r)) (items r) (omega arith); good = λ h. h; few = λ h. h; same = record { room = refl; zero = refl; lender = refl } }
-
 pub front_short : {X : Type 0} (xs ys : List X) → take (length xs) ys ≡ xs → length xs ≤ length ys
 front_short xs ys h = omega (arith, length-take (length xs) ys, ap length h)
 

@@ -1,11 +1,9 @@
 pub mod Again
 pub mod Agreement
-pub mod Answering
 pub mod Checked
 pub mod Closing
 pub mod Concluding
 pub mod Conjuncts
-pub mod Denials
 pub mod Drafting
 pub mod Feeds
 pub mod Few
@@ -19,7 +17,6 @@ pub mod Names
 pub mod Numbers
 pub mod Passing
 pub mod Placing
-pub mod Spans
 pub mod Storing
 pub mod Walks
 pub mod Worked

@@ -4,9 +4,9 @@ use Rattle.std.proofs.lemmas.List.{length-map}
 use Rattle.std.specs.Option.{option_map}
 use Rattle.text.specs.Lists.{Each}
 use Rattle.text.specs.Pieces.{property}
-use Rattle.problem.specs.Drafts.{Sought, sought_of, then, WantedOk}
+use Rattle.problem.specs.Drafts.{sought_of, then, WantedOk}
 use Rattle.problem.specs.Growth.{ok_mapped}
-use Rattle.problem.specs.Reading.{Limits, Place, State, opened, placed, moved, step}
+use Rattle.problem.specs.Reading.{Limits, Place, State, placed, moved, step}
 use Rattle.problem.specs.Rows.{PackageOk}
 use Rattle.problem.specs.Sections.{place_of, place_at, given_of, state_of, SectionOk, Sound}
 use Rattle.problem.specs.declared.fault.ProblemFault.{ProblemFault}
@@ -14,16 +14,8 @@ use Rattle.problem.specs.declared.rows.ConstraintRow.{ConstraintRow}
 use Rattle.problem.specs.declared.rows.PackageRow.{PackageRow}
 use Rattle.problem.specs.declared.section.Progress.{Progress}
 use Rattle.problem.specs.declared.section.Section.{Section}
-use Rattle.problem.specs.declared.section.Section.TheVariants.{Between}
 use Rattle.problem.specs.declared.wanted.Wanted.{Wanted}
 use Rattle.problem.proofs.Drafting.{list_stays, conjuncts_stay, wanted_stays, spanned_more}
-
-pub begun_placed : (text : List ℕ) (cs : List ConstraintRow) (limit n : ℕ) (full : Bool) (q : Option Sought) (p : List ℕ × List ℕ) (s : Section) (r : Result Section ProblemFault) → s ≡ Between → ok_mapped (place_of text cs) r ≡ opened n full q p → ok_mapped (place_at text cs) r ≡ placed limit n full q (length cs) p (place_of text cs s)
-begun_placed text cs limit n full q p s r e h = at r ∙ ap (λ x. then x (λ y. Ok (y, length cs))) h ∙ rw e refl
-  where
-    at : (r : Result Section ProblemFault) → ok_mapped (place_at text cs) r ≡ then (ok_mapped (place_of text cs) r) (λ y. Ok (y, length cs))
-    at (Ok x) = refl
-    at (Err x) = refl
 
 -- what was read before stays as it was
 module _ (text : List ℕ) (cs ds : List ConstraintRow) (front : take (length cs) ds ≡ cs) where

@@ -1,19 +1,20 @@
 -- Rows put one after the other are the lists that the pieces say.
-use Rattle.std.proofs.Common.{◌≡◌, ℕ, suc, ◌+◌, ◌-◌, ◌<◌, ◌≤◌, Bool, true, false, cond, eqb, ltb, leb, List, [], ◌∷◌, ◌++◌, map, length, drop, IfOk, Some, None, Ok, Option, sym, refl, ap, ◌∙◌, subst, inl, inr, arith}
+use Rattle.std.proofs.Common.{◌≡◌, ℕ, suc, ◌+◌, ◌-◌, ◌<◌, ◌≤◌, Bool, true, false, cond, eqb, ltb, leb, List, [], ◌∷◌, ◌++◌, map, length, drop, is_err, Some, None, Ok, Err, Option, Result, sym, refl, ap, ◌∙◌, subst, inl, inr, arith}
 use Rattle.std.proofs.lemmas.List.{append_assoc, append-nil, length_push, length-append, length-map, length-drop, drop-map, drop_at, take_rest}
 use Rattle.std.proofs.lemmas.Bool.{lt-ltb, le-ltb, le-leb, lt-leb, cases_lt}
+use Rattle.std.specs.Option.{option_map}
 use Rattle.text.specs.Lists.{each, each_all, Each}
-use Rattle.text.specs.Pieces.{front, pieces}
+use Rattle.text.specs.Pieces.{pieces}
 use Rattle.text.specs.Rows.{items}
 use Rattle.text.specs.declared.rows.Rows.{Rows}
 use Rattle.text.proofs.Cuts.{pieces_some}
 use Rattle.problem.specs.Cudf.{Constraint}
 use Rattle.problem.specs.ConstraintLists.{Asked, Kept, asked_of, kept, limit_of, put, is_nil, stored, stored_all, Stores, then, all_of, constraint_list, conjunct_list, listed, conjoined, total}
-use Rattle.problem.specs.Growth.{ok_mapped, list_at, conjuncts_at, settled, SpanOf, Grown}
-use Rattle.problem.specs.Meaning.{constraint_of, list_of, conjuncts_of, conjuncts}
+use Rattle.problem.specs.Growth.{ok_mapped, list_at, conjuncts_at, settled, Grown}
+use Rattle.problem.specs.Meaning.{constraint_of, list_of, conjuncts_of, conjuncts, front}
 use Rattle.problem.specs.Words.{constraint}
+use Rattle.problem.specs.declared.fault.ProblemFault.TheVariants.{TooMany}
 use Rattle.problem.specs.declared.rows.ConstraintRow.{ConstraintRow}
-use Rattle.problem.specs.declared.rows.Span.{Span}
 use Rattle.problem.proofs.Growing.{front_short}
 
 -- constraints of one conjunct ws rows: the last is marked
@@ -107,13 +108,13 @@ fill_lost limit k (a ∷ ws) h l =
     ]
 
 -- what the rows then are, and what the reading answered
-abbrev Comes : List ℕ → Rows ConstraintRow → Option (List Asked) → Option Bool → Rows ConstraintRow → Type 0
+abbrev Comes : {U F : Type 0} → List ℕ → Rows ConstraintRow → Option (List Asked) → Option (Result U F) → Rows ConstraintRow → Type 0
 Comes text r None read s = read ≡ None
 Comes text r (Some ws) read s =
-    (length (items r) + length ws ≤ limit_of r → (read ≡ Some false) × (map (asked_of text) (drop (length (items r)) (items s)) ≡ ws))
-    × (limit_of r < length (items r) + length ws → read ≡ Some true)
+    (length (items r) + length ws ≤ limit_of r → (option_map is_err read ≡ Some false) × (map (asked_of text) (drop (length (items r)) (items s)) ≡ ws))
+    × (limit_of r < length (items r) + length ws → option_map is_err read ≡ Some true)
 
-comes : (text : List ℕ) (r s : Rows ConstraintRow) (o : Option (List Asked)) (z : Option Kept) (read : Option Bool) → length (items r) ≤ limit_of r → z ≡ then o (λ ws. Some (fill (limit_of r) (kept text r false) ws)) → Stores text z read s → Comes text r o read s
+comes : {U F : Type 0} (text : List ℕ) (r s : Rows ConstraintRow) (o : Option (List Asked)) (z : Option Kept) (read : Option (Result U F)) → length (items r) ≤ limit_of r → z ≡ then o (λ ws. Some (fill (limit_of r) (kept text r false) ws)) → Stores text z read s → Comes text r o read s
 comes text r s None z None h e st = refl
 comes text r s None z (Some b) h e st = absurd (let x : ◌≡◌ {A = ℕ} 0 1 = cc in omega arith)
 comes text r s (Some ws) z None h e st = absurd (let x : ◌≡◌ {A = ℕ} 0 1 = cc in omega arith)
@@ -122,16 +123,16 @@ comes text r s (Some ws) z (Some b) h e st = (fits, lost)
     n : length (map (asked_of text) (items r)) ≡ length (items r)
     n = length-map (items r) (asked_of text)
 
-    is : fill (limit_of r) (kept text r false) ws ≡ kept text s b
+    is : fill (limit_of r) (kept text r false) ws ≡ kept text s (is_err b)
     is = cc
 
-    fits : length (items r) + length ws ≤ limit_of r → (Some b ≡ Some false) × (map (asked_of text) (drop (length (items r)) (items s)) ≡ ws)
+    fits : length (items r) + length ws ≤ limit_of r → (Some (is_err b) ≡ Some false) × (map (asked_of text) (drop (length (items r)) (items s)) ≡ ws)
     fits l =
         let f = sym is ∙ fill_fits (limit_of r) (kept text r false) ws (omega (arith, n)) in
         let rows : map (asked_of text) (items s) ≡ map (asked_of text) (items r) ++ ws = ap (λ k. k.rows) f in
         (ap (λ k. Some k.lost) f, sym (drop-map (asked_of text) (length (items r)) (items s)) ∙ ap (drop (length (items r))) rows ∙ drop_at (map (asked_of text) (items r)) ws (length (items r)) n)
 
-    lost : limit_of r < length (items r) + length ws → Some b ≡ Some true
+    lost : limit_of r < length (items r) + length ws → Some (is_err b) ≡ Some true
     lost l = ap Some (sym (ap (λ k. k.lost) is) ∙ fill_lost (limit_of r) (kept text r false) ws (omega (arith, n)) (omega (arith, n)))
 
 -- rows in words
@@ -210,8 +211,19 @@ conjuncts_from text rows first gs some h =
 grown_count : (text : List ℕ) (rows : List ConstraintRow) (first : ℕ) (ws : List Asked) → first ≤ length rows → map (asked_of text) (drop first rows) ≡ ws → length rows ≡ first + length ws
 grown_count text rows first ws le h = omega (arith, ap length h, length-map (drop first rows) (asked_of text), length-drop first rows)
 
+-- what the reading answered, as a run or a fault
+settled_full : {U F : Type 0} (first count n : ℕ) (read : Option (Result U F)) → option_map is_err read ≡ Some true → settled first count n read ≡ Err (TooMany n)
+settled_full first count n None h = absurd (let z : ◌≡◌ {A = ℕ} 0 1 = cc in omega arith)
+settled_full first count n (Some (Ok x)) h = absurd (let z : ◌≡◌ {A = ℕ} 0 1 = cc in omega arith)
+settled_full first count n (Some (Err x)) h = refl
+
+settled_placed : {U F : Type 0} (first count n : ℕ) (read : Option (Result U F)) → option_map is_err read ≡ Some false → settled first count n read ≡ Ok (record { first = first; len = count - first })
+settled_placed first count n None h = absurd (let z : ◌≡◌ {A = ℕ} 0 1 = cc in omega arith)
+settled_placed first count n (Some (Ok x)) h = refl
+settled_placed first count n (Some (Err x)) h = absurd (let z : ◌≡◌ {A = ℕ} 0 1 = cc in omega arith)
+
 -- what a list of constraints answers
-pub list_read : (text v : List ℕ) (r s : Rows ConstraintRow) (n : ℕ) (read : Option Bool) → eqb (length v) 0 ≡ false → length (items r) ≤ limit_of r → Grown text r s → Stores text (stored (limit_of r) (kept text r false) (pieces 44 v)) read s → ok_mapped (list_at text s) (settled (length (items r)) (length (items s)) n read) ≡ listed (limit_of r) (length (items r)) n (constraint_list v)
+pub list_read : {U F : Type 0} (text v : List ℕ) (r s : Rows ConstraintRow) (n : ℕ) (read : Option (Result U F)) → eqb (length v) 0 ≡ false → length (items r) ≤ limit_of r → Grown text r s → Stores text (stored (limit_of r) (kept text r false) (pieces 44 v)) read s → ok_mapped (list_at text s) (settled (length (items r)) (length (items s)) n read) ≡ listed (limit_of r) (length (items r)) n (constraint_list v)
 list_read text v r s n read some few grown st =
     at (all_of constraint (pieces 44 v)) (rw some refl) (stored_all_filled (limit_of r) (kept text r false) (pieces 44 v))
   where
@@ -226,17 +238,17 @@ list_read text v r s n read some few grown st =
         elim (cases_lt (limit_of r) (length (items r) + length cs)) [
           | inl over ↦
               let b : leb (length (items r) + length cs) (limit_of r) ≡ false = lt-leb (length (items r) + length cs) (limit_of r) over in
-              let l : read ≡ Some true = k.1 (omega arith) in
+              let l = settled_full (length (items r)) (length (items s)) n read (k.1 (omega arith)) in
               rw (l, e, b) refl
           | inr under ↦
               let b : leb (length (items r) + length cs) (limit_of r) ≡ true = le-leb (length (items r) + length cs) (limit_of r) under in
               let l = k.0 (omega arith) in
               let c : length (items s) ≡ length (items r) + length cs = grown_count text (items s) (length (items r)) (marks cs) short l.1 ∙ ap (λ x. length (items r) + x) m in
               let x = list_from text (items s) (length (items r)) cs l.1 in
-              rw (l.0, e, b) (ap (λ y. Ok (y, length (items s))) x ∙ ap (λ y. Ok (cs, y)) c)
+              rw (settled_placed (length (items r)) (length (items s)) n read l.0, e, b) (ap (λ y. Ok (y, length (items s))) x ∙ ap (λ y. Ok (cs, y)) c)
         ]
 
-pub conjuncts_read : (text v : List ℕ) (r s : Rows ConstraintRow) (n : ℕ) (read : Option Bool) → eqb (length v) 0 ≡ false → length (items r) ≤ limit_of r → Grown text r s → Stores text (stored_all (limit_of r) (kept text r false) (pieces 44 v)) read s → ok_mapped (conjuncts_at text s) (settled (length (items r)) (length (items s)) n read) ≡ conjoined (limit_of r) (length (items r)) n (conjunct_list v)
+pub conjuncts_read : {U F : Type 0} (text v : List ℕ) (r s : Rows ConstraintRow) (n : ℕ) (read : Option (Result U F)) → eqb (length v) 0 ≡ false → length (items r) ≤ limit_of r → Grown text r s → Stores text (stored_all (limit_of r) (kept text r false) (pieces 44 v)) read s → ok_mapped (conjuncts_at text s) (settled (length (items r)) (length (items s)) n read) ≡ conjoined (limit_of r) (length (items r)) n (conjunct_list v)
 conjuncts_read text v r s n read some few grown st =
     at (all_of conjunct (pieces 44 v)) refl (rw some refl) (all_stored (limit_of r) (kept text r false) (pieces 44 v))
   where
@@ -251,37 +263,12 @@ conjuncts_read text v r s n read some few grown st =
         elim (cases_lt (limit_of r) (length (items r) + total gs)) [
           | inl over ↦
               let b : leb (length (items r) + total gs) (limit_of r) ≡ false = lt-leb (length (items r) + total gs) (limit_of r) over in
-              let l : read ≡ Some true = k.1 (omega arith) in
+              let l = settled_full (length (items r)) (length (items s)) n read (k.1 (omega arith)) in
               rw (l, e, b) refl
           | inr under ↦
               let b : leb (length (items r) + total gs) (limit_of r) ≡ true = le-leb (length (items r) + total gs) (limit_of r) under in
               let l = k.0 (omega arith) in
               let c : length (items s) ≡ length (items r) + total gs = grown_count text (items s) (length (items r)) (each_all marks gs) short l.1 ∙ ap (λ x. length (items r) + x) m in
               let x = conjuncts_from text (items s) (length (items r)) gs (conjuncts_some (pieces 44 v) gs q) l.1 in
-              rw (l.0, e, b) (ap (λ y. Ok (y, length (items s))) x ∙ ap (λ y. Ok (gs, y)) c)
+              rw (settled_placed (length (items r)) (length (items s)) n read l.0, e, b) (ap (λ y. Ok (y, length (items s))) x ∙ ap (λ y. Ok (gs, y)) c)
         ]
-
-pub span_settled : (r s : Rows ConstraintRow) (first n : ℕ) (read : Option Bool) → first ≡ length (items r) → first ≤ length (items s) → IfOk (settled first (length (items s)) n read) (SpanOf r s)
-span_settled r s first n None e h = tt
-span_settled r s first n (Some true) e h = tt
-span_settled r s first n (Some false) e h = record { first = e; end = omega arith }
-
--- an empty list
-module _ (text v : List ℕ) (r : Rows ConstraintRow) (first n : ℕ) where
-  abbrev none : Span
-  none = record { first = first; len = 0 }
-
-  fits_still : length (items r) ≤ limit_of r → leb (length (items r) + 0) (limit_of r) ≡ true
-  fits_still h = le-leb (length (items r) + 0) (limit_of r) (omega arith)
-
-  same_count : length (items r) ≡ length (items r) + 0
-  same_count = omega arith
-
-  pub list_empty : eqb (length v) 0 ≡ true → length (items r) ≤ limit_of r → Ok (list_at text r none) ≡ listed (limit_of r) (length (items r)) n (constraint_list v)
-  list_empty e h = rw (e, fits_still h) (ap (λ y. Ok ([], y)) same_count)
-
-  pub conjuncts_empty : eqb (length v) 0 ≡ true → length (items r) ≤ limit_of r → Ok (conjuncts_at text r none) ≡ conjoined (limit_of r) (length (items r)) n (conjunct_list v)
-  conjuncts_empty e h = rw (e, fits_still h) (ap (λ y. Ok ([], y)) same_count)
-
-  pub span_empty : first ≡ length (items r) → SpanOf r r none
-  span_empty e = record { first = e; end = omega arith }

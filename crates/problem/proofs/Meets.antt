@@ -1,6 +1,7 @@
 -- The plan clauses of a problem in words, by tests on its rows.
-use Rattle.std.proofs.Common.{◌≡◌, ℕ, suc, ◌+◌, ◌<◌, ◌≤◌, Bool, true, false, cond, List, [], ◌∷◌, ◌++◌, length, get_or, drop, Some, None, sym, refl, ap, ◌∙◌, subst, arith}
-use Rattle.std.proofs.lemmas.List.{get_or-map, length-map, length-take-le}
+use Rattle.std.proofs.Common.{◌≡◌, ℕ, suc, ◌+◌, ◌<◌, ◌≤◌, Bool, true, false, cond, List, [], ◌∷◌, ◌++◌, length, get_or, drop, Some, None, Ok, Err, sym, refl, ap, ◌∙◌, subst, arith}
+use Rattle.std.specs.Result.{IsErr}
+use Rattle.std.proofs.lemmas.List.{get_or-map, length-map}
 use Rattle.std.proofs.lemmas.Bool.{true≢false, false≢true}
 use Rattle.text.specs.Lists.{each, each_all, keep}
 use Rattle.text.specs.Literals.{Clause, lit}
@@ -13,8 +14,9 @@ use Rattle.problem.specs.Stanzas.{row_satisfies, row_satisfies_one, passing, den
 use Rattle.problem.specs.declared.rows.Span.{Span}
 use Rattle.problem.specs.declared.rows.PackageRow.{PackageRow}
 use Rattle.problem.specs.declared.rows.ConstraintRow.{ConstraintRow}
+use Rattle.problem.specs.declared.sink.Stopped.{Stopped}
 use Rattle.problem.specs.declared.view.Problem.{Problem as View}
-use Rattle.problem.proofs.Feeds.{walk_more, walk-stop, walk_all}
+use Rattle.problem.proofs.Feeds.{Taken, walk_more, walk_stop, walk_all}
 use Rattle.problem.proofs.Numbers.{numbered_at, numbered-length}
 use Rattle.problem.proofs.Walks.{some_of_each, or_none}
 
@@ -115,9 +117,6 @@ module _ (v : View) (text : List ℕ) (ps : List PackageRow) (t : text ≡ v.tex
 packages_count : (v : View) (n : ℕ) → n ≡ length (problem_of v).packages → n ≡ length (packages_in v)
 packages_count v n e = e ∙ length-map (packages_in v) _
 
-pub place_within : (v : View) (i n : ℕ) → n ≡ length (problem_of v).packages → i < n → i < v.count
-place_within v i n e l = omega (arith, packages_count v n e, length-take-le v.count v.packages.now v.packages_held)
-
 -- the walk over the stanzas
 module _ {S : Type 0} (goes stops : S → Clause → S → Type 0) (v : View) (whole : List Clause) (start s t : S) (i n : ℕ) (e : n ≡ length (problem_of v).packages) where
   longs : length (stanzas (problem_of v)) ≡ n
@@ -127,14 +126,14 @@ module _ {S : Type 0} (goes stops : S → Clause → S → Type 0) (v : View) (w
   no_stanza = stanza_at v 0
 
   module _ (l : i < n) (k : Left goes stops whole start (each_all (of_stanza (problem_of v)) (drop i (stanzas (problem_of v)))) s) where
-    at : (r : Bool) → Fed goes stops (of_stanza (problem_of v) (stanza_at v i)) r s t → Fed goes stops (of_stanza (problem_of v) (get_or (stanzas (problem_of v)) i no_stanza)) r s t
+    at : (r : Taken) → Fed goes stops (of_stanza (problem_of v) (stanza_at v i)) r s t → Fed goes stops (of_stanza (problem_of v) (get_or (stanzas (problem_of v)) i no_stanza)) r s t
     at r = subst (λ x. Fed goes stops (of_stanza (problem_of v) x) r s t) (sym (stanza_at_place v i no_stanza (omega (arith, packages_count v n e))))
 
-    pub stanzas-more : Fed goes stops (of_stanza (problem_of v) (stanza_at v i)) true s t → Left goes stops whole start (each_all (of_stanza (problem_of v)) (drop (i + 1) (stanzas (problem_of v)))) t
-    stanzas-more h = walk_more goes stops (of_stanza (problem_of v)) whole start s t (stanzas (problem_of v)) i no_stanza (omega (arith, longs)) k (at true h)
+    pub stanzas_more : Fed goes stops (of_stanza (problem_of v) (stanza_at v i)) (Ok tt) s t → Left goes stops whole start (each_all (of_stanza (problem_of v)) (drop (i + 1) (stanzas (problem_of v)))) t
+    stanzas_more h = walk_more goes stops (of_stanza (problem_of v)) whole start s t (stanzas (problem_of v)) i no_stanza (omega (arith, longs)) k (at (Ok tt) h)
 
-    pub stanzas-stop : Fed goes stops (of_stanza (problem_of v) (stanza_at v i)) false s t → Fed goes stops whole false start t
-    stanzas-stop h = walk-stop goes stops (of_stanza (problem_of v)) whole start s t (stanzas (problem_of v)) i no_stanza (omega (arith, longs)) k (at false h)
+    pub stanzas_stop : (e : Stopped) (r : Taken) → IsErr r → Fed goes stops (of_stanza (problem_of v) (stanza_at v i)) (Err e) s t → Fed goes stops whole r start t
+    stanzas_stop e r j h = walk_stop goes stops (of_stanza (problem_of v)) whole start s t (stanzas (problem_of v)) i no_stanza e r (omega (arith, longs)) k j (at (Err e) h)
 
-  pub stanzas_all : n ≤ i → Left goes stops whole start (each_all (of_stanza (problem_of v)) (drop i (stanzas (problem_of v)))) s → Fed goes stops whole true start s
+  pub stanzas_all : n ≤ i → Left goes stops whole start (each_all (of_stanza (problem_of v)) (drop i (stanzas (problem_of v)))) s → Fed goes stops whole (Ok tt) start s
   stanzas_all l = walk_all goes stops (of_stanza (problem_of v)) whole start s (stanzas (problem_of v)) i (omega (arith, longs))

@@ -1,7 +1,7 @@
--- The numbers of rows that pass a test: the steps of a walk, and the clause "not i, or one of them".
+-- The numbers of rows that pass a test, and the clause "not i, or one of them".
 use Rattle.std.proofs.Common.{◌≡◌, ℕ, suc, ◌+◌, ◌<◌, ◌≤◌, Bool, true, false, cond, eqb, ltb, List, [], ◌∷◌, ◌++◌, length, get_or, take, drop, sym, refl, ap, ◌∙◌, add-zero, arith}
 use lib.Dec.{eqb_refl}
-use Rattle.std.proofs.lemmas.List.{drop_more, drop_all, append_assoc, append-nil, take-append-drop, length-take-le}
+use Rattle.std.proofs.lemmas.List.{drop_more, append_assoc, take-append-drop, length-take-le}
 use Rattle.std.proofs.lemmas.Bool.{cond-true, cond-false, lt-ltb, le-ltb, ne_eqb, or_from}
 use Rattle.text.proofs.Members.{each_weaker, true_from, some_right, or_left}
 use Rattle.text.specs.Lists.{each, some, Each}
@@ -21,31 +21,6 @@ none_between i [] (k ∷ ks) h g = or_from (eqb i k) _ (ne_eqb i k (λ e. omega 
 none_between i (j ∷ js) ks h g = or_from (eqb i j) _ (ne_eqb i j (λ e. omega (arith, h.0))) (none_between i js ks h.1 g)
 
 module _ (t : PackageRow → Bool) where
-  pub passing_step : (ps : List PackageRow) (b i : ℕ) (d : PackageRow) (r : Bool) → i < length ps → t (get_or ps i d) ≡ r →
-      passing t (b + i) (drop i ps) ≡ cond r (suc (b + i) ∷ passing t (b + (i + 1)) (drop (i + 1) ps)) (passing t (b + (i + 1)) (drop (i + 1) ps))
-  passing_step ps b i d r l e =
-      let n : suc (b + i) ≡ b + (i + 1) = omega arith in
-      ap (passing t (b + i)) (drop_more ps i d l) ∙ ap (λ m. cond (t (get_or ps i d)) (suc (b + i) ∷ passing t m (drop (i + 1) ps)) (passing t m (drop (i + 1) ps))) n
-      ∙ ap (λ y. cond y (suc (b + i) ∷ passing t (b + (i + 1)) (drop (i + 1) ps)) (passing t (b + (i + 1)) (drop (i + 1) ps))) e
-
-  pub passing_end : (ps : List PackageRow) (b i : ℕ) → length ps ≤ i → passing t (b + i) (drop i ps) ≡ []
-  passing_end ps b i l = ap (passing t (b + i)) (drop_all i ps l)
-
-  -- the clause that is written, and what is left to write
-  pub written_more : (ps : List PackageRow) (b i : ℕ) (d : PackageRow) (c c' whole : Clause) → i < length ps → t (get_or ps i d) ≡ true → c' ≡ c ++ lit (suc (b + i)) ∷ [] →
-      c ++ each lit (passing t (b + i) (drop i ps)) ≡ whole → c' ++ each lit (passing t (b + (i + 1)) (drop (i + 1) ps)) ≡ whole
-  written_more ps b i d c c' whole l e w h =
-      let rest = each lit (passing t (b + (i + 1)) (drop (i + 1) ps)) in
-      ap (λ y. y ++ rest) w ∙ append_assoc c (lit (suc (b + i)) ∷ []) rest ∙ ap (λ y. c ++ each lit y) (sym (passing_step ps b i d true l e)) ∙ h
-
-  pub written_same : (ps : List PackageRow) (b i : ℕ) (d : PackageRow) (c c' whole : Clause) → i < length ps → t (get_or ps i d) ≡ false → c' ≡ c →
-      c ++ each lit (passing t (b + i) (drop i ps)) ≡ whole → c' ++ each lit (passing t (b + (i + 1)) (drop (i + 1) ps)) ≡ whole
-  written_same ps b i d c c' whole l e w h =
-      ap (λ y. y ++ each lit (passing t (b + (i + 1)) (drop (i + 1) ps))) w ∙ ap (λ y. c ++ each lit y) (sym (passing_step ps b i d false l e)) ∙ h
-
-  pub written_all : (ps : List PackageRow) (b i : ℕ) (c whole : Clause) → length ps ≤ i → c ++ each lit (passing t (b + i) (drop i ps)) ≡ whole → c ≡ whole
-  written_all ps b i c whole l h = sym (append-nil c) ∙ ap (λ y. c ++ each lit y) (sym (passing_end ps b i l)) ∙ h
-
   passing_append : (xs ys : List PackageRow) (b : ℕ) → passing t b (xs ++ ys) ≡ passing t b xs ++ passing t (b + length xs) ys
   passing_append [] ys b = ap (λ n. passing t n ys) (sym (add-zero b))
   passing_append (x ∷ xs) ys b =

@@ -1,10 +1,13 @@
 -- The ways through the readers of constraints.
-use Rattle.std.proofs.Common.{◌≡◌, ℕ, ◌-◌, ◌<◌, ◌≤◌, Bool, true, false, cond, eqb, ◌⊎◌, List, length, take, drop, IfSome, Some, None, Option, sym, refl, ap, ◌∙◌, arith}
+use Rattle.std.proofs.Common.{suc, not, ltb, ◌+◌, unwrap_or, inl, inr, [], ◌∷◌, ◌≡◌, ℕ, ◌-◌, ◌≤◌, Bool, true, false, cond, eqb, List, length, take, drop, IfSome, Some, None, Option, sym, refl, ap, ◌∙◌, arith}
 use Rattle.std.proofs.lemmas.List.{take_rest}
 use Rattle.std.proofs.lemmas.Bool.Decides.{nat_tests}
+use Rattle.std.proofs.lemmas.Bool.{lt-ltb, le-ltb, cases_lt}
+use Rattle.std.specs.List.{position, position_or_len}
 use Rattle.std.specs.Option.{option_map}
 use Rattle.text.proofs.Clamps.{word_front, word_length}
 use Rattle.text.specs.Spaces.{unled, trimmed}
+use Rattle.text.specs.Span.{span}
 use Rattle.text.specs.Word.{word_in, Inside}
 use Rattle.text.specs.declared.word.Word.{Word}
 use Rattle.problem.specs.Meaning.{constraint_of}
@@ -15,9 +18,32 @@ use Rattle.problem.specs.declared.rows.Relation.{Relation}
 use Rattle.problem.specs.declared.rows.Relation.TheVariants.{Any}
 use Rattle.problem.specs.declared.rows.ConstraintRow.{ConstraintRow}
 
--- past an operator, with what was read of the version
-pub related_at : (w : Word) (last : Bool) (rest v : List ℕ) (rel : Relation) (n : ℕ) (o : Option ℕ) → eqb (length rest) 0 ≡ false → Some (rel, n) ≡ operator rest → v ≡ unled (take (length rest - n) (drop n rest)) → o ≡ version v → asks w last rel o ≡ related_to w last rest
-related_at w last rest v rel n o e p q r = rw (e, ← p, r, q, take_rest rest n) refl
+-- how many stand at the front, by the place of the first byte that fails the test
+counted_alike : (t : ℕ → Bool) (xs : List ℕ) → position_or_len (λ x. not (t x)) xs ≡ span t xs
+counted_alike t [] = refl
+counted_alike t (x ∷ xs) = at (t x) (counted_alike t xs)
+  where
+    at : (b : Bool) → position_or_len (λ x. not (t x)) xs ≡ span t xs → cond (not (not b)) (1 + position_or_len (λ x. not (t x)) xs) 0 ≡ cond b (suc (span t xs)) 0
+    at true h = omega arith
+    at false h = refl
+
+span_within : (t : ℕ → Bool) (xs : List ℕ) → span t xs ≤ length xs
+span_within t [] = omega arith
+span_within t (x ∷ xs) = at (t x) (span_within t xs)
+  where
+    at : (b : Bool) → span t xs ≤ length xs → cond b (suc (span t xs)) 0 ≤ length (x ∷ xs)
+    at true h = omega arith
+    at false h = omega arith
+
+or_all : (n m : ℕ) → n ≤ m → unwrap_or (cond (ltb n m) (Some n) None) m ≡ n
+or_all n m h =
+    elim (cases_lt n m) [
+      | inl l ↦ let a : ltb n m ≡ true = lt-ltb n m l in rw a refl
+      | inr l ↦ let a : ltb n m ≡ false = le-ltb n m l in rw a (omega arith)
+    ]
+
+pub span_position : (t : ℕ → Bool) (xs : List ℕ) → unwrap_or (position (λ x. not (t x)) xs) (length xs) ≡ span t xs
+span_position t xs = ap (λ n. unwrap_or (cond (ltb n (length xs)) (Some n) None) (length xs)) (counted_alike t xs) ∙ or_all (span t xs) (length xs) (span_within t xs)
 
 -- a row in words
 asks_words : (text : List ℕ) (w : Word) (last : Bool) (rel : Relation) (o : Option ℕ) → option_map (constraint_of text) (asks w last rel o) ≡ asked (word_in text w) rel o
@@ -39,12 +65,6 @@ named_at : (inner rest : List ℕ) (n : ℕ) → n ≡ name_len inner → (n ≡
 named_at inner rest n m z u b =
     let x : named inner ≡ related (take n inner) (unled (drop n inner)) = rw m (grind (arith, nat_tests)) in
     x ∙ rw (b, take_rest inner n) refl
-
-pub none_at : (text : List ℕ) (part word : Word) (inner : List ℕ) (n : ℕ) → inner ≡ word_in text word → word_in text word ≡ trimmed (word_in text part) → n ≡ name_len inner → (n ≡ 0) ⊎ (64 < n) → constraint (word_in text part) ≡ None
-none_at text part word inner n i t m z =
-    let e : inner ≡ trimmed (word_in text part) = i ∙ t in
-    let x : named inner ≡ None = grind (arith, nat_tests) in
-    ap named (sym e) ∙ x
 
 -- the constraint of a part, by the row that was made
 pub constraint_at : (text : List ℕ) (part word : Word) (last : Bool) (inner rest : List ℕ) (n : ℕ) (o : Option ConstraintRow) → inner ≡ word_in text word → word_in text word ≡ trimmed (word_in text part) → Inside (length text) word → n ≡ name_len inner → n ≤ length inner → (n ≡ 0 → ⊥) → n ≤ 64 → rest ≡ unled (take (length inner - n) (drop n inner)) → o ≡ related_to (record { start = word.start; len = n }) last rest → IfSome o (λ c. (c.name ≡ record { start = word.start; len = n }) × (c.version ≤ 999999) × (c.last ≡ last)) → Reads text part last o

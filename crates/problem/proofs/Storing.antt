@@ -1,15 +1,15 @@
 -- One turn of a loop that puts constraints into rows.
-use Rattle.std.proofs.Common.{◌≡◌, ℕ, min, Bool, true, false, cond, ltb, List, [], ◌∷◌, map, length, is_err, Some, None, Ok, Err, MatchBool, Option, Result, sym, refl, ap, ◌∙◌, arith}
+use Rattle.std.proofs.Common.{◌≡◌, ℕ, min, Bool, true, false, cond, ltb, List, [], ◌∷◌, map, length, is_err, Some, Ok, Err, MatchBool, Option, Result, sym, refl, ap, ◌∙◌, arith}
 use Rattle.std.proofs.lemmas.List.{map_push, length-map}
 use Rattle.std.proofs.lemmas.Bool.{lt-ltb, le-ltb}
+use Rattle.std.specs.Result.{result_and}
 use Rattle.text.specs.Left.{left, Takes}
-use Rattle.text.specs.Pieces.{pieces}
 use Rattle.text.specs.Rows.{items, room, Same, Pushes}
 use Rattle.text.specs.Word.{word_in}
 use Rattle.text.specs.declared.parts.Parts.{Parts}
 use Rattle.text.specs.declared.rows.Rows.{Rows}
 use Rattle.text.specs.declared.word.Word.{Word}
-use Rattle.problem.specs.ConstraintLists.{Kept, asked_of, kept, limit_of, put, is_nil, stored, stored_all, Stores, then}
+use Rattle.problem.specs.ConstraintLists.{Kept, asked_of, kept, limit_of, put, is_nil, stored}
 use Rattle.problem.proofs.Growing.{grown_push, grown_then}
 use Rattle.problem.specs.Growth.{Grown}
 use Rattle.problem.specs.Meaning.{constraint_of}
@@ -48,13 +48,11 @@ stored_turn text e r s f d P Q w c o z t m tk dn rd p h =
     ∙ sym (stored_step (limit_of e) (kept text r f) (word_in P.text.now w) (left Q) text c a l)
     ∙ ap (stored (limit_of e) (kept text r f)) (sym tk.0) ∙ h
 
-pub lost_err : {U F : Type 0} (f : Bool) (o : Result U F) → is_err o ≡ true → lost_after f o ≡ true
-lost_err f (Ok u) b = absurd (let z : ◌≡◌ {A = ℕ} 0 1 = cc in omega arith)
-lost_err f (Err e) b = refl
-
-pub lost_ok : {U F : Type 0} (f : Bool) (o : Result U F) → is_err o ≡ false → lost_after f o ≡ f
-lost_ok f (Ok u) b = refl
-lost_ok f (Err e) b = absurd (let z : ◌≡◌ {A = ℕ} 0 1 = cc in omega arith)
+pub lost_and : {U F : Type 0} (a o : Result U F) → lost_after (is_err a) o ≡ is_err (result_and a o)
+lost_and (Ok u) (Ok v) = refl
+lost_and (Ok u) (Err e) = refl
+lost_and (Err d) (Ok v) = refl
+lost_and (Err d) (Err e) = refl
 
 -- all that the loop keeps, over one turn
 pub turn_kept : {U F : Type 0} (text : List ℕ) (e r s : Rows ConstraintRow) (f d g : Bool) (P Q : Parts) (w : Word) (c : ConstraintRow) (o : Result U F) (z : Option Kept) → lost_after f o ≡ g → (stored (limit_of e) (kept text r f) (left P) ≡ z) × (P.text.now ≡ text) × Grown text e r → Takes P Q (Some w) → MatchBool d (left Q ≡ []) (left Q ≡ [] → ⊥) → Reads text w d (Some c) → Pushes (min 1024 (room r)) (items r) c (items s) o → Same r s → (stored (limit_of e) (kept text s g) (left Q) ≡ z) × (Q.text.now ≡ text) × Grown text e s
@@ -63,31 +61,3 @@ turn_kept text e r s f d g P Q w c o z l inv tk dn rd p m = (
   ap (λ x. x.now) tk.1 ∙ inv.1,
   grown_then text e r s inv.2 (grown_push text r s c o rd.2 p m),
 )
-
--- the piece is no constraint
-pub stored_bad : (text : List ℕ) (limit : ℕ) (k : Kept) (P Q : Parts) (w : Word) (d : Bool) (z : Option Kept) → P.text.now ≡ text → Takes P Q (Some w) → Reads text w d None → stored limit k (left P) ≡ z → z ≡ None
-stored_bad text limit k P Q w d z t tk rd h =
-    let a : constraint (word_in P.text.now w) ≡ None = ap (λ x. constraint (word_in x w)) t ∙ rd in
-    let b : stored limit k (word_in P.text.now w ∷ left Q) ≡ None = rw a refl in
-    sym h ∙ ap (stored limit k) tk.0 ∙ b
-
--- the same for conjuncts
-conjuncts_step : (text : List ℕ) (limit : ℕ) (k : Kept) (P Q : Parts) (w : Word) (o : Option Kept) (z : Option Kept) → P.text.now ≡ text → Takes P Q (Some w) → stored limit k (pieces 124 (word_in text w)) ≡ o → stored_all limit k (left P) ≡ z → then o (λ m. stored_all limit m (left Q)) ≡ z
-conjuncts_step text limit k P Q w o z t tk st h =
-    let a : stored limit k (pieces 124 (word_in P.text.now w)) ≡ o = ap (λ x. stored limit k (pieces 124 (word_in x w))) t ∙ st in
-    let b : stored_all limit k (word_in P.text.now w ∷ left Q) ≡ then o (λ m. stored_all limit m (left Q)) = rw a refl in
-    sym b ∙ ap (stored_all limit k) (sym tk.0) ∙ h
-
-pub conjuncts_turn : (text : List ℕ) (e r s : Rows ConstraintRow) (f g : Bool) (P Q : Parts) (w : Word) (z : Option Kept) → P.text.now ≡ text → room r ≡ room e → Takes P Q (Some w) → Stores text (stored (limit_of r) (kept text r f) (pieces 124 (word_in text w))) (Some g) s → stored_all (limit_of e) (kept text r f) (left P) ≡ z → stored_all (limit_of e) (kept text s g) (left Q) ≡ z
-conjuncts_turn text e r s f g P Q w z t m tk st h =
-    let l : limit_of r ≡ limit_of e = ap (min 1024) m in
-    conjuncts_step text (limit_of e) (kept text r f) P Q w (Some (kept text s g)) z t tk (rw l at st) h
-
-pub conjuncts_bad : (text : List ℕ) (e r s : Rows ConstraintRow) (f : Bool) (P Q : Parts) (w : Word) (z : Option Kept) → P.text.now ≡ text → room r ≡ room e → Takes P Q (Some w) → Stores text (stored (limit_of r) (kept text r f) (pieces 124 (word_in text w))) None s → stored_all (limit_of e) (kept text r f) (left P) ≡ z → z ≡ None
-conjuncts_bad text e r s f P Q w z t m tk st h =
-    let l : limit_of r ≡ limit_of e = ap (min 1024) m in
-    sym (conjuncts_step text (limit_of e) (kept text r f) P Q w None z t tk (rw l at st) h)
-
-pub stores_none : (text : List ℕ) (z : Option Kept) (o : Option Bool) (r : Rows ConstraintRow) → o ≡ None → z ≡ None → Stores text z o r
-stores_none text z None r e h = h
-stores_none text z (Some b) r e h = absurd (let x : ◌≡◌ {A = ℕ} 0 1 = cc in omega arith)

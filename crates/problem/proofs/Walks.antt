@@ -1,17 +1,24 @@
--- Whether some member passes a test: the steps of a walk, in what is left of the list.
-use Rattle.std.proofs.Common.{◌≡◌, ℕ, ◌+◌, ◌<◌, ◌≤◌, Bool, true, false, ◌||◌, List, [], ◌∷◌, length, get_or, drop, refl, ap, ◌∙◌}
-use Rattle.std.proofs.lemmas.List.{at_drop_more, at_drop_all}
+-- Whether some member passes a test.
+use Rattle.std.proofs.Common.{◌≡◌, Bool, true, false, ◌||◌, List, [], ◌∷◌, Option, sym, refl, ap, ◌∙◌}
+use Rattle.std.specs.Fn.{Called}
+use Rattle.std.specs.Iterator.{YieldsThen}
+use Rattle.std.specs.List.{list_any, FoldsTo}
+use Rattle.std.specs.Option.{MatchOption}
+use denote.Param.Members.{Mut}
+use Rattle.std.proofs.lemmas.Iterator.{YieldsList}
+use Rattle.std.proofs.lemmas.Iterator.Search.{any_from_yields_List}
 use Rattle.text.specs.Lists.{each, some}
 
-module _ {X : Type 0} (t : X → Bool) (xs : List X) (i : ℕ) (d : X) (l : i < length xs) where
-  pub some_found : t (get_or xs i d) ≡ true → some t (drop i xs) ≡ true
-  some_found e = let f : some t (drop i xs) ≡ (t (get_or xs i d) || some t (drop (i + 1) xs)) = at_drop_more (some t) xs i d l in f ∙ ap (λ b. b || some t (drop (i + 1) xs)) e
+-- what `any` answers
+some_is_any : {X : Type 0} (t : X → Bool) (xs : List X) → some t xs ≡ list_any t xs
+some_is_any t [] = refl
+some_is_any t (x ∷ xs) = ap (λ b. t x || b) (some_is_any t xs)
 
-  pub some_missed : t (get_or xs i d) ≡ false → some t (drop i xs) ≡ some t (drop (i + 1) xs)
-  some_missed e = let f : some t (drop i xs) ≡ (t (get_or xs i d) || some t (drop (i + 1) xs)) = at_drop_more (some t) xs i d l in f ∙ ap (λ b. b || some t (drop (i + 1) xs)) e
-
-pub some_none : {X : Type 0} (t : X → Bool) (xs : List X) (i : ℕ) → length xs ≤ i → some t (drop i xs) ≡ false
-some_none t xs i l = at_drop_all (some t) xs i l
+module _ {S A B F : Type 0} {steps : S → Option A → S → Type 0} {v : A → B} {g : Mut F (A × Unit {0}) Bool} {s : S} {all : List B} where
+  pub some_from_any : (test : B → Bool) (u : S) (f : F) (r : Bool) →
+      (xs : List A) × (o : Option A) × (j : F) × YieldsThen steps s xs o u × FoldsTo (λ p x q. Called g p (x, tt) false q) f xs j × MatchOption o (r ≡ false) (λ x. (r ≡ true) × ((h : F) × Called g j (x, tt) true h)) →
+      YieldsList steps v s all → ((x : A) (b : Bool) (q : F) → Called g f (x, tt) b q → (q ≡ f) × (b ≡ test (v x))) → r ≡ some test all
+  some_from_any test u f r h y k = any_from_yields_List test u f r h y k ∙ sym (some_is_any test all)
 
 -- a test on a list that is made from each member
 pub some_of_each : {X Y : Type 0} (t : Y → Bool) (g : X → Y) (xs : List X) → some t (each g xs) ≡ some (λ x. t (g x)) xs

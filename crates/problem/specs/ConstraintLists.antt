@@ -7,7 +7,7 @@
 -- Stores: what a call that puts rows answers, by what they come to
 -- once: what comes of a property, unless its stanza has it already
 -- listed, conjoined: what a list comes to where so many constraints are there already: its members and how many are there then, or a fault
-use Rattle.std.specs.Prelude.{◌≡◌, ℕ, ◌+◌, min, Bool, true, false, cond, List, [], ◌∷◌, ◌++◌, map, length, Some, None, Ok, Err, Option, Result, ◌==◌, nat_le, nat_lt}
+use Rattle.std.specs.Prelude.{◌≡◌, ℕ, ◌+◌, min, Bool, true, false, cond, List, [], ◌∷◌, ◌++◌, map, length, is_err, Some, None, Ok, Err, Option, Result, ◌==◌, nat_le, nat_lt}
 use Rattle.text.specs.Pieces.{pieces}
 use Rattle.text.specs.Rows.{items, room}
 use Rattle.text.specs.declared.rows.Rows.{Rows}
@@ -81,6 +81,6 @@ abbrev pub stored_all : ℕ → Kept → List (List ℕ) → Option Kept
 stored_all limit k [] = Some k
 stored_all limit k (p ∷ ps) = then (stored limit k (pieces 124 p)) (λ m. stored_all limit m ps)
 
-abbrev pub Stores : List ℕ → Option Kept → Option Bool → Rows ConstraintRow → Type 0
+abbrev pub Stores : {U F : Type 0} → List ℕ → Option Kept → Option (Result U F) → Rows ConstraintRow → Type 0
 Stores text o None r = o ≡ None
-Stores text o (Some lost) r = o ≡ Some (kept text r lost)
+Stores text o (Some placed) r = o ≡ Some (kept text r (is_err placed))

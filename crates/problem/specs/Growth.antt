@@ -4,7 +4,7 @@
 -- list_at, conjuncts_at: what a run holds in words, and how many rows there are
 -- settled: the run that a reading comes to, or its fault
 -- SpanOf: the run of the rows that were put after the others
-use Rattle.std.specs.Prelude.{◌≡◌, ℕ, ◌+◌, ◌-◌, ◌≤◌, Bool, true, false, List, length, take, Some, None, Ok, Err, Option, Result}
+use Rattle.std.specs.Prelude.{◌≡◌, ℕ, ◌+◌, ◌-◌, ◌≤◌, List, length, take, Some, None, Ok, Err, Option, Result}
 use Rattle.text.specs.Lists.{Each}
 use Rattle.text.specs.Rows.{items, Same}
 use Rattle.text.specs.declared.rows.Rows.{Rows}
@@ -33,10 +33,10 @@ list_at text r s = (list_of text (items r) s, length (items r))
 abbrev pub conjuncts_at : List ℕ → Rows ConstraintRow → Span → List (List Constraint) × ℕ
 conjuncts_at text r s = (conjuncts_of text (items r) s, length (items r))
 
-abbrev pub settled : ℕ → ℕ → ℕ → Option Bool → Result Span ProblemFault
+abbrev pub settled : {U F : Type 0} → ℕ → ℕ → ℕ → Option (Result U F) → Result Span ProblemFault
 settled first count n None = Err (Value n)
-settled first count n (Some true) = Err (TooMany n)
-settled first count n (Some false) = Ok (record { first = first; len = count - first })
+settled first count n (Some (Err e)) = Err (TooMany n)
+settled first count n (Some (Ok u)) = Ok (record { first = first; len = count - first })
 
 pub record SpanOf (r s : Rows ConstraintRow) (x : Span) : Type 0 where
   pub first : x.first ≡ length (items r)

@@ -18,6 +18,7 @@ pub mod Reads
 pub mod Refusal
 pub mod Repeats
 pub mod Rows
+pub mod Said
 pub mod Sections
 pub mod Sets
 pub mod Stanzas

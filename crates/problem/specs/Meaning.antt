@@ -4,7 +4,6 @@
 -- packages_in, constraints_in: the rows of a view; problem_of: all of it in words
 use Rattle.std.specs.Prelude.{ℕ, cond, List, [], ◌∷◌, take}
 use Rattle.text.specs.Lists.{each}
-use Rattle.text.specs.Pieces.{front}
 use Rattle.text.specs.Word.{word_in}
 use Rattle.problem.specs.Cudf.{Constraint, Package, Problem}
 use Rattle.problem.specs.Rows.{span_in}
@@ -15,6 +14,11 @@ use Rattle.problem.specs.declared.view.Problem.{Problem as View}
 
 abbrev pub constraint_of : List ℕ → ConstraintRow → Constraint
 constraint_of text c = record { name = word_in text c.name; relation = c.relation; bound = c.version }
+
+-- a row in front of the first group
+abbrev pub front : {X : Type 0} → X → List (List X) → List (List X)
+front x [] = (x ∷ []) ∷ []
+front x (g ∷ gs) = (x ∷ g) ∷ gs
 
 abbrev pub conjuncts : List ConstraintRow → List (List ConstraintRow)
 conjuncts [] = []

@@ -2,7 +2,6 @@
 -- row_satisfies, row_satisfies_one: whether a package row satisfies a constraint row, or one of some, by the document
 -- passing: the numbers of the package rows that pass a test; so many rows stand before them
 -- stanza_at: the stanza at a place, with its number
--- conjunct_len: how many constraint rows the first conjunct has
 -- denials: of each of some numbers the clause "not j", or beside a place i "not i, or not j", with i itself left out
 use Rattle.std.specs.Prelude.{ℕ, suc, Bool, cond, not, ◌&&◌, List, [], ◌∷◌, Some, None, Option, ◌==◌, slice_index_or}
 use Rattle.std.specs.Str.{bytes_eq}
@@ -30,10 +29,6 @@ passing t before (p ∷ ps) = cond (t p) (suc before ∷ passing t (suc before) 
 abbrev pub denials : Option ℕ → List ℕ → List Clause
 denials None js = each (λ j. neg j ∷ []) js
 denials (Some i) js = each (not_both (suc i)) (keep (λ j. not (suc i == j)) js)
-
-abbrev pub conjunct_len : List ConstraintRow → ℕ
-conjunct_len [] = 0
-conjunct_len (c ∷ cs) = cond c.last 1 (suc (conjunct_len cs))
 
 abbrev pub stanza_at : View → ℕ → Numbered
 stanza_at v i = record { number = suc i; stanza = package_of v.text.now (constraints_in v) (slice_index_or (packages_in v) i no_package) }

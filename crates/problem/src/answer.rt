@@ -1,5 +1,5 @@
 //! Reads an answer.
-ghost use Rattle.std.specs.Prelude.{◌≡◌, length};
+ghost use Rattle.std.specs.Prelude.{length};
 ghost use Rattle.problem.specs.AnswerCalls.{Answers};
 ghost use Rattle.problem.specs.Meaning.{problem_of};
 
@@ -7,7 +7,6 @@ use crate::answer_lines::read_stanzas;
 use crate::fault::AnswerFault;
 use crate::standing::Standing;
 use crate::view::Problem;
-use text::same::same_bytes;
 
 /// What an answer claims: that no plan exists, or that a set is one.
 #[derive(Clone, Copy)]
@@ -26,7 +25,7 @@ pub fn read_answer(
     ensures { Answers (problem_of problem.now).packages (length table.old) text.now result table.new }
 {
     table.fill(Standing::Unnamed);
-    if same_bytes(text, b"FAIL\n") {
+    if text == b"FAIL\n".as_slice() {
         return Ok(Answer::Fail);
     }
     match read_stanzas(text, problem, table) {

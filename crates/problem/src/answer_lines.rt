@@ -1,7 +1,5 @@
 //! Reads the lines of an answer into a table.
-ghost use Rattle.std.specs.Prelude.{◌≡◌, ◌+◌, ◌^◌, ◌<◌, ◌≤◌, ◌&&◌, length, replicate, is_some, IfSome, IfOk, if◌then◌else◌, Some, ◌==◌};
-ghost use Rattle.std.specs.Str.{bytes_eq};
-ghost use Rattle.text.specs.Left.{shown};
+ghost use Rattle.std.specs.Prelude.{◌≡◌, ◌<◌, ◌≤◌, length, replicate, IfSome, IfOk};
 ghost use Rattle.text.specs.Word.{word_in, Inside};
 ghost use Rattle.problem.specs.AnswerCalls.{draft_in, answering_of, table_after};
 ghost use Rattle.problem.specs.Answers.{begun_by, extended_answer, drafted, stanza_in, settled_at, closed_answer, step_answer, run_answer, nothing_said};
@@ -11,17 +9,16 @@ ghost use Rattle.problem.specs.Growth.{ok_mapped};
 ghost use Rattle.problem.specs.Heads.{head_of, HeadOk};
 ghost use Rattle.problem.specs.Keys.{first_key, answer_key};
 ghost use Rattle.problem.specs.Meaning.{problem_of};
+ghost use Rattle.problem.specs.Said.{said};
 
 use crate::fault::{AnswerFault, ProblemFault};
 use crate::head::{Head, add_installed, add_version, begin};
 use crate::keys::{AnswerKey, FirstKey, read_answer_key, read_first_key};
-use crate::rows::PackageRow;
+use crate::property_line::PropertyLine;
 use crate::standing::Standing;
 use crate::view::Problem;
 use text::fault::TextFault;
 use text::lines::Lines;
-use text::property::{Property, read_property};
-use text::same::same_bytes;
 use text::word::{Word, bytes_of};
 
 /// The most stanzas of an answer.
@@ -35,57 +32,42 @@ pub(crate) struct Reading {
 }
 
 /// Begins a stanza at its first line; `full` says that there may be no more.
-fn begin_stanza(
-    text: &[u8],
-    number: usize,
-    property: Property,
-    full: bool,
-) -> Result<Head, ProblemFault>
-    requires { Inside (length text.now) property.value }
-    ensures head { ok_mapped (head_of text.now) result ≡ begun_by number full (word_in text.now property.value) (first_key (word_in text.now property.name)) }
-    ensures good { IfOk result (HeadOk (length text.now)) }
+fn begin_stanza(line: &PropertyLine<'_>, full: bool) -> Result<Head, ProblemFault>
+    ensures head { ok_mapped (head_of line.now.text.now) result ≡ begun_by line.now.number full (said line.now).1 (first_key (said line.now).0) }
+    ensures good { IfOk result (HeadOk (length line.now.text.now)) }
 {
-    match read_first_key(bytes_of(text, property.name)) {
-        Some(FirstKey::Package) => begin(text, number, property.value, full),
-        Some(FirstKey::Request) => Err(ProblemFault::Property(number)),
-        None => Err(ProblemFault::Property(number)),
+    match read_first_key(line.name()) {
+        Some(FirstKey::Package) => begin(line, full),
+        Some(FirstKey::Request) | None => Err(ProblemFault::Property(line.number)),
     }
 }
 
 /// Adds a further line to a stanza.
-fn extend_stanza(
-    text: &[u8],
-    head: Head,
-    number: usize,
-    property: Property,
-) -> Result<Head, ProblemFault>
-    requires { HeadOk (length text.now) head }
-    ensures head { ok_mapped (head_of text.now) result ≡ extended_answer number (head_of text.now head) (word_in text.now property.value) (answer_key (word_in text.now property.name)) }
-    ensures good { IfOk result (HeadOk (length text.now)) }
+fn extend_stanza(line: &PropertyLine<'_>, head: Head) -> Result<Head, ProblemFault>
+    requires { HeadOk (length line.now.text.now) head }
+    ensures head { ok_mapped (head_of line.now.text.now) result ≡ extended_answer line.now.number (head_of line.now.text.now head) (said line.now).1 (answer_key (said line.now).0) }
+    ensures good { IfOk result (HeadOk (length line.now.text.now)) }
 {
-    match read_answer_key(bytes_of(text, property.name)) {
-        Some(AnswerKey::Version) => add_version(text, head, number, property.value),
-        Some(AnswerKey::Installed) => add_installed(text, head, number, property.value),
-        None => Err(ProblemFault::Property(number)),
+    match read_answer_key(line.name()) {
+        Some(AnswerKey::Version) => add_version(line, head),
+        Some(AnswerKey::Installed) => add_installed(line, head),
+        None => Err(ProblemFault::Property(line.number)),
     }
 }
 
 /// Reads a line that has a property.
 fn take_property(
-    text: &[u8],
+    line: &PropertyLine<'_>,
     last: Option<Head>,
-    number: usize,
-    property: Property,
     full: bool,
 ) -> Result<Head, ProblemFault>
-    requires inside { Inside (length text.now) property.value }
-    requires good { IfSome last (HeadOk (length text.now)) }
-    ensures head { ok_mapped (head_of text.now) result ≡ drafted number full (draft_in text.now last) (shown text.now property) }
-    ensures good { IfOk result (HeadOk (length text.now)) }
+    requires { IfSome last (HeadOk (length line.now.text.now)) }
+    ensures head { ok_mapped (head_of line.now.text.now) result ≡ drafted line.now.number full (draft_in line.now.text.now last) (said line.now) }
+    ensures good { IfOk result (HeadOk (length line.now.text.now)) }
 {
     match last {
-        None => begin_stanza(text, number, property, full),
-        Some(head) => extend_stanza(text, head, number, property),
+        None => begin_stanza(line, full),
+        Some(head) => extend_stanza(line, head),
     }
 }
 
@@ -94,20 +76,10 @@ fn find_stanza(problem: &Problem<'_, '_, '_>, name: &[u8], version: u32) -> Opti
     ensures { result ≡ stanza_in name.now version (problem_of problem.now).packages }
 {
     let text = problem.text();
-    let packages = problem.packages();
-    for (i, row) in packages.iter().enumerate() {
-        if is_stanza(text, row, name, version) {
-            return Some(i);
-        }
-    }
-    None
-}
-
-/// Whether a row has a name and version.
-fn is_stanza(text: &[u8], row: &PackageRow, name: &[u8], version: u32) -> bool
-    ensures { result ≡ (bytes_eq name.now (word_in text.now row.now.name) && version == row.now.version) }
-{
-    same_bytes(name, bytes_of(text, row.name)) && version == row.version
+    problem
+        .packages()
+        .iter()
+        .position(|row| row.is_stanza(text, name, version))
 }
 
 /// Notes what a stanza says of the package at a place, unless that was said before.
@@ -122,14 +94,14 @@ fn note(
     let Some(j) = place else {
         return Err(AnswerFault::Unknown(line));
     };
-    if j >= table.len() {
-        return Err(AnswerFault::Document(ProblemFault::TooMany(line)));
+    match table.get(j) {
+        Some(Standing::Unnamed) => {
+            table[j] = Standing::from(installed);
+            Ok(())
+        }
+        Some(Standing::Out | Standing::In) => Err(AnswerFault::Unknown(line)),
+        None => Err(AnswerFault::Document(ProblemFault::TooMany(line))),
     }
-    if !table[j].is_unnamed() {
-        return Err(AnswerFault::Unknown(line));
-    }
-    table[j] = Standing::of(installed);
-    Ok(())
 }
 
 /// Ends the stanza that is open, if one is.
@@ -149,22 +121,6 @@ fn close(
     };
     let place = find_stanza(problem, bytes_of(text, head.name), version);
     note(head.line, head.installed.unwrap_or(false), place, table)
-}
-
-/// Where the reading stands after a line with a property.
-fn after_property(last: Reading, head: Head) -> Reading
-    requires { last.begun + 1 < 2 ^ 64 }
-    ensures { result ≡ record { draft = Some head; begun = (if is_some last.draft then last.begun else last.begun + 1) } }
-{
-    let begun = if last.draft.is_some() {
-        last.begun
-    } else {
-        last.begun + 1
-    };
-    Reading {
-        draft: Some(head),
-        begun,
-    }
 }
 
 /// Reads one line.
@@ -189,12 +145,15 @@ fn read_line(
             begun: last.begun,
         });
     }
-    let Some(property) = read_property(text, line) else {
+    let Some(line) = PropertyLine::read(text, number, line) else {
         return Err(AnswerFault::Document(ProblemFault::Text(TextFault::Form(number))));
     };
     let full = last.begun >= STANZAS_MOST;
-    let head = take_property(text, last.draft, number, property, full)?;
-    Ok(after_property(last, head))
+    let head = take_property(&line, last.draft, full)?;
+    Ok(Reading {
+        draft: Some(head),
+        begun: last.begun + usize::from(last.draft.is_none()),
+    })
 }
 
 /// Reads all lines of an answer into a table that says nothing yet.

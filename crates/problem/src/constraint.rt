@@ -1,8 +1,5 @@
 //! Reads a constraint.
-ghost use Rattle.std.specs.Prelude.{◌≡◌, ◌<◌, ◌≤◌, length, IfSome, slice_index};
-ghost use Rattle.std.specs.Option.{option_map};
-ghost use Rattle.text.specs.Word.{word_in};
-ghost use Rattle.problem.specs.ConstraintLists.{asked_of};
+ghost use Rattle.std.specs.Prelude.{◌≡◌, ◌≤◌, length, IfSome};
 ghost use Rattle.problem.specs.Placed.{Reads, related_to};
 ghost use Rattle.problem.specs.Words.{name_byte, name_len, is_name, operator as operator_of, version};
 
@@ -33,12 +30,9 @@ fn name_len(text: &[u8]) -> usize
     ensures value { result ≡ name_len text.now }
     ensures within { result ≤ length text.now }
 {
-    for (i, b) in text.iter().enumerate() {
-        if !is_name_byte(*b) {
-            return i;
-        }
-    }
-    text.len()
+    text.iter()
+        .position(|b| !is_name_byte(*b))
+        .unwrap_or(text.len())
 }
 
 /// Whether a text is a name.
@@ -49,28 +43,18 @@ pub(crate) fn is_name(text: &[u8]) -> bool
     n > 0 && n <= NAME_MOST && name_len(text) == n
 }
 
-/// The byte at `i`, or 0 past the end.
-fn byte_at(text: &[u8], i: usize) -> u8
-    ensures value { result ≡ slice_index text.now i }
-    ensures within { 0 < result → i < length text.now }
-{
-    if i < text.len() { text[i] } else { 0 }
-}
-
 /// The operator at the front, and how many bytes it has.
 fn read_operator(text: &[u8]) -> Option<(Relation, usize)>
     ensures value { result ≡ operator_of text.now }
     ensures within { IfSome result (λ p. p.1 ≤ length text.now) }
 {
-    let first = byte_at(text, 0) as char;
-    let second = byte_at(text, 1) as char;
-    match (first, second) {
-        ('=', _) => Some((Relation::Equal, 1)),
-        ('!', '=') => Some((Relation::Differs, 2)),
-        ('>', '=') => Some((Relation::AtLeast, 2)),
-        ('>', _) => Some((Relation::Greater, 1)),
-        ('<', '=') => Some((Relation::AtMost, 2)),
-        ('<', _) => Some((Relation::Less, 1)),
+    match text {
+        [b'=', ..] => Some((Relation::Equal, 1)),
+        [b'!', b'=', ..] => Some((Relation::Differs, 2)),
+        [b'>', b'=', ..] => Some((Relation::AtLeast, 2)),
+        [b'>', ..] => Some((Relation::Greater, 1)),
+        [b'<', b'=', ..] => Some((Relation::AtMost, 2)),
+        [b'<', ..] => Some((Relation::Less, 1)),
         _ => None,
     }
 }
@@ -80,11 +64,7 @@ pub(crate) fn read_version(text: &[u8]) -> Option<u32>
     ensures value { result ≡ version text.now }
     ensures within { IfSome result (λ n. (1 ≤ n) × (n ≤ 999999)) }
 {
-    let n = decimal(text, 9)?;
-    if n == 0 || n > VERSION_MOST {
-        return None;
-    }
-    Some(n)
+    decimal(text, 9).filter(|n| (1..=VERSION_MOST).contains(n))
 }
 
 /// Reads the constraint of a part of the document; `last` says whether its conjunct ends with it.

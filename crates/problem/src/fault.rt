@@ -36,11 +36,11 @@ impl ProblemFault {
         ensures { result ≡ (refusal self).place }
     {
         match self {
-            ProblemFault::Text(TextFault::Form(line)) => line,
-            ProblemFault::Property(line) => line,
-            ProblemFault::Value(line) => line,
-            ProblemFault::Twice(line) => line,
-            ProblemFault::TooMany(line) => line,
+            ProblemFault::Text(TextFault::Form(line))
+            | ProblemFault::Property(line)
+            | ProblemFault::Value(line)
+            | ProblemFault::Twice(line)
+            | ProblemFault::TooMany(line) => line,
         }
     }
 
@@ -82,6 +82,7 @@ impl AnswerFault {
     }
 }
 
+// Each `from` is written out, since its `from_gives` is what a contract knows of a fault that `?` passed on.
 impl From<TextFault> for ProblemFault {
     ghost from_gives = { λ f r. r ≡ Text f };
 

@@ -1,15 +1,17 @@
 //! What problems and answers share of a stanza: its name, version and whether it is installed.
 ghost use Rattle.std.specs.Prelude.{◌≡◌, length, IfOk};
-ghost use Rattle.text.specs.Word.{word_in, Inside};
+ghost use Rattle.problem.specs.ConstraintLists.{once};
 ghost use Rattle.problem.specs.Growth.{ok_mapped};
-ghost use Rattle.problem.specs.Heads.{head_of, begun, versioned, marked, HeadOk};
+ghost use Rattle.problem.specs.Heads.{head_of, begun, valued, versioned, marked, HeadOk};
 ghost use Rattle.problem.specs.Keys.{truth};
+ghost use Rattle.problem.specs.Said.{said};
 ghost use Rattle.problem.specs.Words.{version};
 
 use crate::constraint::{is_name, read_version};
 use crate::fault::ProblemFault;
 use crate::keys::read_truth;
-use text::word::{Word, bytes_of};
+use crate::property_line::PropertyLine;
+use text::word::Word;
 
 /// What is known of a stanza so far.
 #[derive(Clone, Copy)]
@@ -20,69 +22,57 @@ pub(crate) struct Head {
     pub installed: Option<bool>,
 }
 
-/// Begins a stanza at its first line; `full` says that there is no place for one more.
-pub(crate) fn begin(
-    text: &[u8],
-    number: usize,
-    value: Word,
-    full: bool,
-) -> Result<Head, ProblemFault>
-    requires { Inside (length text.now) value }
-    ensures head { ok_mapped (head_of text.now) result ≡ begun number full (word_in text.now value) }
-    ensures good { IfOk result (HeadOk (length text.now)) }
+/// What was read of a value on line `number`, unless its stanza has one already.
+fn once<T: Copy>(number: usize, already: Option<T>, read: Option<T>) -> Result<T, ProblemFault>
+    ensures { result ≡ once number already (valued number read) }
 {
-    if !is_name(bytes_of(text, value)) {
-        return Err(ProblemFault::Value(number));
+    match already {
+        Some(_) => Err(ProblemFault::Property(number)),
+        None => read.ok_or(ProblemFault::Value(number)),
+    }
+}
+
+/// Begins a stanza at its first line; `full` says that there is no place for one more.
+pub(crate) fn begin(line: &PropertyLine<'_>, full: bool) -> Result<Head, ProblemFault>
+    ensures head { ok_mapped (head_of line.now.text.now) result ≡ begun line.now.number full (said line.now).1 }
+    ensures good { IfOk result (HeadOk (length line.now.text.now)) }
+{
+    if !is_name(line.value()) {
+        return Err(ProblemFault::Value(line.number));
     }
     if full {
-        return Err(ProblemFault::TooMany(number));
+        return Err(ProblemFault::TooMany(line.number));
     }
     Ok(Head {
-        line: number,
-        name: value,
+        line: line.number,
+        name: line.property.value,
         version: None,
         installed: None,
     })
 }
 
 /// Adds the version.
-pub(crate) fn add_version(
-    text: &[u8],
-    mut head: Head,
-    number: usize,
-    value: Word,
-) -> Result<Head, ProblemFault>
-    requires { HeadOk (length text.now) head }
-    ensures head { ok_mapped (head_of text.now) result ≡ versioned number (head_of text.now head) head.version (version (word_in text.now value)) }
-    ensures good { IfOk result (HeadOk (length text.now)) }
+pub(crate) fn add_version(line: &PropertyLine<'_>, head: Head) -> Result<Head, ProblemFault>
+    requires { HeadOk (length line.now.text.now) head }
+    ensures head { ok_mapped (head_of line.now.text.now) result ≡ versioned line.now.number (head_of line.now.text.now head) head.version (version (said line.now).1) }
+    ensures good { IfOk result (HeadOk (length line.now.text.now)) }
 {
-    if head.version.is_some() {
-        return Err(ProblemFault::Property(number));
-    }
-    let Some(version) = read_version(bytes_of(text, value)) else {
-        return Err(ProblemFault::Value(number));
-    };
-    head.version = Some(version);
-    Ok(head)
+    let version = once(line.number, head.version, read_version(line.value()))?;
+    Ok(Head {
+        version: Some(version),
+        ..head
+    })
 }
 
 /// Adds whether it is installed.
-pub(crate) fn add_installed(
-    text: &[u8],
-    mut head: Head,
-    number: usize,
-    value: Word,
-) -> Result<Head, ProblemFault>
-    requires { HeadOk (length text.now) head }
-    ensures head { ok_mapped (head_of text.now) result ≡ marked number (head_of text.now head) head.installed (truth (word_in text.now value)) }
-    ensures good { IfOk result (HeadOk (length text.now)) }
+pub(crate) fn add_installed(line: &PropertyLine<'_>, head: Head) -> Result<Head, ProblemFault>
+    requires { HeadOk (length line.now.text.now) head }
+    ensures head { ok_mapped (head_of line.now.text.now) result ≡ marked line.now.number (head_of line.now.text.now head) head.installed (truth (said line.now).1) }
+    ensures good { IfOk result (HeadOk (length line.now.text.now)) }
 {
-    if head.installed.is_some() {
-        return Err(ProblemFault::Property(number));
-    }
-    let Some(installed) = read_truth(bytes_of(text, value)) else {
-        return Err(ProblemFault::Value(number));
-    };
-    head.installed = Some(installed);
-    Ok(head)
+    let installed = once(line.number, head.installed, read_truth(line.value()))?;
+    Ok(Head {
+        installed: Some(installed),
+        ..head
+    })
 }

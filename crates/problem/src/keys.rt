@@ -2,8 +2,6 @@
 ghost use Rattle.std.specs.Prelude.{◌≡◌};
 ghost use Rattle.problem.specs.Keys.{first_key, package_key, request_key, answer_key, truth};
 
-use text::same::same_bytes;
-
 /// What may stand on the first line of a stanza.
 #[derive(Clone, Copy)]
 pub(crate) enum FirstKey {
@@ -37,52 +35,42 @@ pub(crate) enum AnswerKey {
 pub(crate) fn read_first_key(name: &[u8]) -> Option<FirstKey>
     ensures { result ≡ first_key name.now }
 {
-    if same_bytes(name, b"package") {
-        Some(FirstKey::Package)
-    } else if same_bytes(name, b"request") {
-        Some(FirstKey::Request)
-    } else {
-        None
+    match name {
+        b"package" => Some(FirstKey::Package),
+        b"request" => Some(FirstKey::Request),
+        _ => None,
     }
 }
 
 pub(crate) fn read_package_key(name: &[u8]) -> Option<PackageKey>
     ensures { result ≡ package_key name.now }
 {
-    if same_bytes(name, b"version") {
-        Some(PackageKey::Version)
-    } else if same_bytes(name, b"depends") {
-        Some(PackageKey::Depends)
-    } else if same_bytes(name, b"conflicts") {
-        Some(PackageKey::Conflicts)
-    } else if same_bytes(name, b"installed") {
-        Some(PackageKey::Installed)
-    } else {
-        None
+    match name {
+        b"version" => Some(PackageKey::Version),
+        b"depends" => Some(PackageKey::Depends),
+        b"conflicts" => Some(PackageKey::Conflicts),
+        b"installed" => Some(PackageKey::Installed),
+        _ => None,
     }
 }
 
 pub(crate) fn read_request_key(name: &[u8]) -> Option<RequestKey>
     ensures { result ≡ request_key name.now }
 {
-    if same_bytes(name, b"install") {
-        Some(RequestKey::Install)
-    } else if same_bytes(name, b"remove") {
-        Some(RequestKey::Remove)
-    } else {
-        None
+    match name {
+        b"install" => Some(RequestKey::Install),
+        b"remove" => Some(RequestKey::Remove),
+        _ => None,
     }
 }
 
 pub(crate) fn read_answer_key(name: &[u8]) -> Option<AnswerKey>
     ensures { result ≡ answer_key name.now }
 {
-    if same_bytes(name, b"version") {
-        Some(AnswerKey::Version)
-    } else if same_bytes(name, b"installed") {
-        Some(AnswerKey::Installed)
-    } else {
-        None
+    match name {
+        b"version" => Some(AnswerKey::Version),
+        b"installed" => Some(AnswerKey::Installed),
+        _ => None,
     }
 }
 
@@ -90,11 +78,9 @@ pub(crate) fn read_answer_key(name: &[u8]) -> Option<AnswerKey>
 pub(crate) fn read_truth(value: &[u8]) -> Option<bool>
     ensures { result ≡ truth value.now }
 {
-    if same_bytes(value, b"true") {
-        Some(true)
-    } else if same_bytes(value, b"false") {
-        Some(false)
-    } else {
-        None
+    match value {
+        b"true" => Some(true),
+        b"false" => Some(false),
+        _ => None,
     }
 }

@@ -6,21 +6,20 @@ ghost use Rattle.problem.specs.ConstraintLists.{limit_of};
 ghost use Rattle.problem.specs.Growth.{Grown, ok_mapped};
 ghost use Rattle.problem.specs.Reading.{placed, step, run, start};
 ghost use Rattle.text.specs.Doc.{doc, count};
+ghost use Rattle.problem.specs.Said.{said};
 ghost use Rattle.problem.specs.Sections.{limits_of, place_of, place_at, state_of, SectionOk, Sound};
 ghost use Rattle.problem.specs.Drafts.{sought_of};
-ghost use Rattle.problem.specs.declared.section.Section.TheVariants.{Package, Request};
 ghost use Rattle.std.specs.Option.{option_map};
-ghost use Rattle.text.specs.Left.{shown};
 
-use crate::draft::{Draft, extend};
+use crate::draft::extend;
 use crate::fault::ProblemFault;
+use crate::property_line::PropertyLine;
 use crate::rows::{ConstraintRow, PackageRow};
 use crate::section::{Progress, Section, close, open};
 use crate::view::PACKAGES_MOST;
-use crate::wanted::{Wanted, add_request};
+use crate::wanted::add_request;
 use text::fault::TextFault;
 use text::lines::Lines;
-use text::property::{Property, read_property};
 use text::rows::Rows;
 use text::word::Word;
 
@@ -44,60 +43,31 @@ fn read_line(
     if line.len == 0 {
         return close(last, packages);
     }
-    let Some(property) = read_property(text, line) else {
+    let Some(line) = PropertyLine::read(text, number, line) else {
         return Err(ProblemFault::Text(TextFault::Form(number)));
     };
     let full = !packages.has_room(PACKAGES_MOST);
-    let section = take_property(text, last, number, property, full, constraints);
-    moved(section, last)
+    take_property(&line, last, full, constraints).map(|section| Progress { section, ..last })
 }
 
 /// Reads a line that has a property: begins a stanza, or adds to the one that is open.
 fn take_property(
-    text: &[u8],
+    line: &PropertyLine<'_>,
     last: Progress,
-    number: usize,
-    property: Property,
     full: bool,
     constraints: &mut Rows<'_, ConstraintRow>,
 ) -> Result<Section, ProblemFault>
-    requires inside { Inside (length text.now) property.value }
     requires few { length (items constraints.old) ≤ limit_of constraints.old }
-    requires section { SectionOk (length text.now) (length (items constraints.old)) last.section }
-    ensures place { ok_mapped (place_at text.now (items constraints.new)) result ≡ placed (limit_of constraints.old) number full (option_map (sought_of text.now (items constraints.old)) last.request) (length (items constraints.old)) (shown text.now property) (place_of text.now (items constraints.old) last.section) }
-    ensures good { IfOk result (SectionOk (length text.now) (length (items constraints.new))) }
-    ensures grown { Grown text.now constraints.old constraints.new }
+    requires section { SectionOk (length line.now.text.now) (length (items constraints.old)) last.section }
+    ensures place { ok_mapped (place_at line.now.text.now (items constraints.new)) result ≡ placed (limit_of constraints.old) line.now.number full (option_map (sought_of line.now.text.now (items constraints.old)) last.request) (length (items constraints.old)) (said line.now) (place_of line.now.text.now (items constraints.old) last.section) }
+    ensures good { IfOk result (SectionOk (length line.now.text.now) (length (items constraints.new))) }
+    ensures grown { Grown line.now.text.now constraints.old constraints.new }
 {
     match last.section {
-        Section::Between => open(text, last.request, number, property, full),
-        Section::Package(draft) => in_package(extend(text, draft, number, property, constraints)),
-        Section::Request(wanted) => {
-            in_request(add_request(text, wanted, number, property, constraints))
-        }
+        Section::Between => open(line, last.request, full),
+        Section::Package(draft) => extend(line, draft, constraints).map(Section::Package),
+        Section::Request(wanted) => add_request(line, wanted, constraints).map(Section::Request),
     }
-}
-
-fn in_package(read: Result<Draft, ProblemFault>) -> Result<Section, ProblemFault>
-    ensures { result ≡ ok_mapped (λ d. Package d) read }
-{
-    Ok(Section::Package(read?))
-}
-
-fn in_request(read: Result<Wanted, ProblemFault>) -> Result<Section, ProblemFault>
-    ensures { result ≡ ok_mapped (λ w. Request w) read }
-{
-    Ok(Section::Request(read?))
-}
-
-/// Where the reading stands once a stanza was begun or added to.
-fn moved(read: Result<Section, ProblemFault>, last: Progress) -> Result<Progress, ProblemFault>
-    ensures { result ≡ ok_mapped (λ s. record { section = s; request = last.request }) read }
-{
-    let section = read?;
-    Ok(Progress {
-        section,
-        request: last.request,
-    })
 }
 
 /// Reads all lines of a document into rows, of which there are none yet. Says where the reading stands then, and how

@@ -9,7 +9,7 @@ ghost use Rattle.problem.specs.PlanClauses.{PlansAgree};
 ghost use Rattle.problem.specs.Sets.{set_of};
 
 use crate::plan_clauses::feed_plan_clauses;
-use crate::sink::ClauseSink;
+use crate::sink::{ClauseSink, Stopped};
 use crate::standing::{Standing, is_chosen};
 use crate::view::Problem;
 
@@ -31,12 +31,12 @@ impl ClauseSink for PlanTest<'_> {
 
     ghost stops = { fails };
 
-    fn take(&mut self, clause: &[i32]) -> bool {
+    fn take(&mut self, clause: &[i32]) -> Result<(), Stopped> {
         if !makes_true(self.set, clause) {
-            return false;
+            return Err(Stopped);
         }
         self.passed = self.passed.saturating_add(1);
-        true
+        Ok(())
     }
 }
 
@@ -46,10 +46,7 @@ pub fn check_plan(problem: &Problem<'_, '_, '_>, set: &[Standing]) -> Result<(),
     ensures agree { PlansAgree }
 {
     let mut test = PlanTest { set, passed: 0 };
-    if feed_plan_clauses(problem, &mut test) {
-        return Ok(());
-    }
-    Err(NotPlan {
+    feed_plan_clauses(problem, &mut test).map_err(|_| NotPlan {
         clause: test.passed + 1,
     })
 }
@@ -58,12 +55,7 @@ pub fn check_plan(problem: &Problem<'_, '_, '_>, set: &[Standing]) -> Result<(),
 fn makes_true(set: &[Standing], clause: &[i32]) -> bool
     ensures { result ≡ makes_true (set_of set.now) clause.now }
 {
-    for literal in clause {
-        if is_true(set, *literal) {
-            return true;
-        }
-    }
-    false
+    clause.iter().any(|literal| is_true(set, *literal))
 }
 
 /// Whether a set makes a literal true.

@@ -2,15 +2,15 @@
 ghost use Rattle.std.specs.Prelude.{◌≡◌, ◌<◌, ◌≤◌, [], ◌∷◌, length};
 ghost use Rattle.text.specs.Lists.{each, each_all};
 ghost use Rattle.text.specs.Literals.{lit};
-ghost use Rattle.text.specs.Rows.{room};
 ghost use Rattle.problem.specs.Cudf.{stanzas};
 ghost use Rattle.problem.specs.Feeding.{Fed};
 ghost use Rattle.problem.specs.Meaning.{problem_of};
 ghost use Rattle.problem.specs.PlanClauses.{of_stanza, plan_clauses};
 ghost use Rattle.problem.specs.Stanzas.{row_satisfies_one, passing, stanza_at};
 
-use crate::rows::{ConstraintRow, PackageRow};
-use crate::sink::ClauseSink;
+use crate::rows::ConstraintRow;
+use crate::sink::{ClauseSink, Stopped};
+use crate::stanzas::Stanzas;
 use crate::view::{PACKAGES_MOST, Problem};
 use conjuncts::feed_depends;
 use denials::feed_denied;
@@ -21,104 +21,68 @@ mod conjuncts;
 mod denials;
 mod literals;
 
-/// Hands the plan clauses to a sink as long as it takes them, and says whether it took them all.
-pub fn feed_plan_clauses<S: ClauseSink>(problem: &Problem<'_, '_, '_>, sink: &mut S) -> bool
+/// Hands the plan clauses to a sink as long as it takes them.
+pub fn feed_plan_clauses<S: ClauseSink>(
+    problem: &Problem<'_, '_, '_>,
+    sink: &mut S,
+) -> Result<(), Stopped>
     ensures { Fed S.goes S.stops (plan_clauses (problem_of problem.now)) result sink.old sink.new }
 {
-    let mut memory = [0; PACKAGES_MOST];
-    let mut clause = Rows::new(&mut memory, 0);
-    let text = problem.text();
-    let packages = problem.packages();
-    if !feed_stanzas(problem, &mut clause, sink) {
-        return false;
-    }
-    if !feed_installs(text, packages, problem.install(), &mut clause, sink) {
-        return false;
-    }
-    feed_denied(text, packages, None, problem.remove(), &mut clause, sink)
+    let stanzas = problem.stanzas();
+    feed_stanzas(problem, sink)?;
+    feed_installs(&stanzas, problem.install(), sink)?;
+    feed_denied(&stanzas, None, problem.remove(), sink)
 }
 
 /// The clauses of the package stanzas.
-fn feed_stanzas<S: ClauseSink>(
-    problem: &Problem<'_, '_, '_>,
-    clause: &mut Rows<'_, i32>,
-    sink: &mut S,
-) -> bool
-    requires { 256 ≤ room clause.old }
-    ensures fed { Fed S.goes S.stops (each_all (of_stanza (problem_of problem.now)) (stanzas (problem_of problem.now))) result sink.old sink.new }
-    ensures room { room clause.new ≡ room clause.old }
+fn feed_stanzas<S: ClauseSink>(problem: &Problem<'_, '_, '_>, sink: &mut S) -> Result<(), Stopped>
+    ensures { Fed S.goes S.stops (each_all (of_stanza (problem_of problem.now)) (stanzas (problem_of problem.now))) result sink.old sink.new }
 {
     let count = problem.len();
     for place in 0..count {
-        if !feed_stanza(problem, place, clause, sink) {
-            return false;
-        }
+        feed_stanza(problem, place, sink)?;
     }
-    true
+    Ok(())
 }
 
 /// The clauses of the package stanza at a place.
 fn feed_stanza<S: ClauseSink>(
     problem: &Problem<'_, '_, '_>,
     place: usize,
-    clause: &mut Rows<'_, i32>,
     sink: &mut S,
-) -> bool
-    requires place { place < problem.now.count }
-    requires fits { 256 ≤ room clause.old }
-    ensures fed { Fed S.goes S.stops (of_stanza (problem_of problem.now) (stanza_at problem.now place)) result sink.old sink.new }
-    ensures room { room clause.new ≡ room clause.old }
+) -> Result<(), Stopped>
+    requires { place < problem.now.count }
+    ensures { Fed S.goes S.stops (of_stanza (problem_of problem.now) (stanza_at problem.now place)) result sink.old sink.new }
 {
-    let text = problem.text();
-    let packages = problem.packages();
-    if !feed_depends(text, packages, place, problem.depends(place), clause, sink) {
-        return false;
-    }
-    feed_denied(
-        text,
-        packages,
-        Some(place),
-        problem.conflicts(place),
-        clause,
-        sink,
-    )
+    let stanzas = problem.stanzas();
+    feed_depends(&stanzas, place, problem.depends(place), sink)?;
+    feed_denied(&stanzas, Some(place), problem.conflicts(place), sink)
 }
 
 /// The clause of each install item.
 fn feed_installs<S: ClauseSink>(
-    text: &[u8],
-    packages: &[PackageRow],
+    stanzas: &Stanzas<'_>,
     items: &[ConstraintRow],
-    clause: &mut Rows<'_, i32>,
     sink: &mut S,
-) -> bool
-    requires few { length packages.now ≤ 256 }
-    requires fits { 256 ≤ room clause.old }
-    ensures fed { Fed S.goes S.stops (each_all (λ c. each lit (passing (row_satisfies_one text.now (c ∷ [])) 0 packages.now) ∷ []) items.now) result sink.old sink.new }
-    ensures room { room clause.new ≡ room clause.old }
+) -> Result<(), Stopped>
+    ensures { Fed S.goes S.stops (each_all (λ c. each lit (passing (row_satisfies_one stanzas.now.text.now (c ∷ [])) 0 stanzas.now.rows.now) ∷ []) items.now) result sink.old sink.new }
 {
     for item in items {
-        if !feed_install(text, packages, item, clause, sink) {
-            return false;
-        }
+        feed_install(stanzas, item, sink)?;
     }
-    true
+    Ok(())
 }
 
 /// The clause of an install item: the packages that satisfy it.
 fn feed_install<S: ClauseSink>(
-    text: &[u8],
-    packages: &[PackageRow],
+    stanzas: &Stanzas<'_>,
     item: &ConstraintRow,
-    clause: &mut Rows<'_, i32>,
     sink: &mut S,
-) -> bool
-    requires few { length packages.now ≤ 256 }
-    requires fits { 256 ≤ room clause.old }
-    ensures fed { Fed S.goes S.stops (each lit (passing (row_satisfies_one text.now (item.now ∷ [])) 0 packages.now) ∷ []) result sink.old sink.new }
-    ensures room { room clause.new ≡ room clause.old }
+) -> Result<(), Stopped>
+    ensures { Fed S.goes S.stops (each lit (passing (row_satisfies_one stanzas.now.text.now (item.now ∷ [])) 0 stanzas.now.rows.now) ∷ []) result sink.old sink.new }
 {
-    clause.clear();
-    write_met(text, packages, 0, &[*item], clause);
+    let mut memory = [0; PACKAGES_MOST];
+    let mut clause = Rows::new(&mut memory, 0);
+    write_met(stanzas, 0, &[*item], &mut clause);
     sink.take(clause.as_slice())
 }

@@ -2,7 +2,7 @@
 ghost use Rattle.std.specs.Prelude.{◌≡◌, [], length, IfOk, OnErr};
 ghost use Rattle.text.specs.Doc.{doc};
 ghost use Rattle.text.specs.Rows.{items, Same};
-ghost use Rattle.problem.specs.Growth.{Grown, ok_mapped};
+ghost use Rattle.problem.specs.Growth.{ok_mapped};
 ghost use Rattle.problem.specs.Reading.{read_doc};
 ghost use Rattle.problem.specs.Reads.{problem_in, RowsOk, Read};
 ghost use Rattle.problem.specs.Sections.{limits_of};
@@ -54,14 +54,12 @@ fn fill(
     ensures same { Same packages.old packages.new }
     ensures others { Same constraints.old constraints.new }
 {
-    match read_rows(text, packages, constraints) {
-        Ok(wanted) => Ok(wanted),
-        Err(fault) => {
-            packages.clear();
-            constraints.clear();
-            Err(fault)
-        }
+    let read = read_rows(text, packages, constraints);
+    if read.is_err() {
+        packages.clear();
+        constraints.clear();
     }
+    read
 }
 
 /// Reads a problem into lent rows, and shows it in `out`. Where it is refused, `out` is a problem without packages, and
@@ -79,14 +77,7 @@ pub fn read_problem<'t, 'p, 'c>(
     let read = fill(text, &mut package_rows, &mut constraint_rows);
     let count = package_rows.len();
     let asked = constraint_rows.len();
-    match read {
-        Ok(wanted) => {
-            *out = Problem::make(text, packages, count, constraints, asked, wanted);
-            Ok(())
-        }
-        Err(fault) => {
-            *out = Problem::make(text, packages, count, constraints, asked, NOTHING_WANTED);
-            Err(fault)
-        }
-    }
+    let wanted = read.unwrap_or(NOTHING_WANTED);
+    *out = Problem::make(text, packages, count, constraints, asked, wanted);
+    read.map(|_| ())
 }

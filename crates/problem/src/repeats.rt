@@ -5,32 +5,20 @@ ghost use Rattle.problem.specs.Repeats.{repeated_in};
 ghost use Rattle.problem.specs.Rows.{same_stanza};
 
 use crate::rows::PackageRow;
-use text::same::same_bytes;
 use text::word::bytes_of;
-
-/// Whether two rows have the same name and version.
-fn is_same(text: &[u8], a: &PackageRow, b: &PackageRow) -> bool
-    ensures { result ≡ same_stanza text.now a.now b.now }
-{
-    a.version == b.version && same_bytes(bytes_of(text, a.name), bytes_of(text, b.name))
-}
 
 /// Whether a row has the name and version of one of these.
 fn is_among(text: &[u8], x: &PackageRow, rows: &[PackageRow]) -> bool
     ensures { result ≡ some (λ y. same_stanza text.now y x.now) rows.now }
 {
-    for row in rows {
-        if is_same(text, row, x) {
-            return true;
-        }
-    }
-    false
+    rows.iter().any(|row| x.is_stanza(text, bytes_of(text, row.name), row.version))
 }
 
 /// The line of the first stanza whose name and version an earlier one has.
 pub(crate) fn first_repeat(text: &[u8], rows: &[PackageRow]) -> Option<usize>
     ensures { result ≡ repeated_in text.now [] rows.now }
 {
+    // A loop: the closure of a chain would not know that `i` is within the rows.
     for (i, row) in rows.iter().enumerate() {
         if is_among(text, row, &rows[0..i]) {
             return Some(row.line);

@@ -1,5 +1,9 @@
 //! The rows that a problem is read into: numbers alone, so that they can lie in lent memory.
-use text::word::Word;
+ghost use Rattle.std.specs.Prelude.{◌≡◌, ◌&&◌, ◌==◌};
+ghost use Rattle.std.specs.Str.{bytes_eq};
+ghost use Rattle.text.specs.Word.{word_in};
+
+use text::word::{Word, bytes_of};
 
 /// How a version stands to the version of a constraint.
 #[derive(Clone, Copy)]
@@ -12,6 +16,9 @@ pub enum Relation {
     Less,
     AtMost,
 }
+
+// A name and a run are a start and a length, and no slices: rows lie in lent memory of plain numbers, and that every name
+// lies in its document is a promise to callers, which a slice could not state.
 
 /// A run of constraint rows.
 #[derive(Clone, Copy)]
@@ -40,6 +47,22 @@ pub struct ConstraintRow {
     pub last: bool,
 }
 
+impl PackageRow {
+    /// Whether the row has this name, in the document.
+    pub fn is_named(&self, text: &[u8], name: &[u8]) -> bool
+        ensures { result ≡ bytes_eq name.now (word_in text.now self.now.name) }
+    {
+        name == bytes_of(text, self.name)
+    }
+
+    /// Whether the row has this name, in the document, and this version.
+    pub(crate) fn is_stanza(&self, text: &[u8], name: &[u8], version: u32) -> bool
+        ensures { result ≡ (bytes_eq name.now (word_in text.now self.now.name) && version == self.now.version) }
+    {
+        self.is_named(text, name) && version == self.version
+    }
+}
+
 /// The run of a list that was not given.
 pub const NO_SPAN: Span = Span { first: 0, len: 0 };
 
@@ -49,8 +72,8 @@ pub const NO_PACKAGE: PackageRow = PackageRow {
     name: Word { start: 0, len: 0 },
     version: 0,
     installed: false,
-    depends: Span { first: 0, len: 0 },
-    conflicts: Span { first: 0, len: 0 },
+    depends: NO_SPAN,
+    conflicts: NO_SPAN,
 };
 
 /// What stands in a place without a constraint.

@@ -4,7 +4,7 @@ ghost use Rattle.problem.specs.Cudf.{holds};
 ghost use Rattle.problem.specs.Stanzas.{row_satisfies, row_satisfies_one};
 
 use crate::rows::{ConstraintRow, PackageRow, Relation};
-use text::same::same_bytes;
+use crate::stanzas::Stanzas;
 use text::word::bytes_of;
 
 /// Whether a version stands in a relation to a bound.
@@ -22,23 +22,22 @@ fn stands(relation: Relation, version: u32, bound: u32) -> bool
     }
 }
 
-/// Whether a package satisfies a constraint.
-pub fn satisfies(text: &[u8], constraint: &ConstraintRow, row: &PackageRow) -> bool
-    ensures { result ≡ row_satisfies text.now constraint.now row.now }
-{
-    let asked = bytes_of(text, constraint.name);
-    let name = bytes_of(text, row.name);
-    same_bytes(asked, name) && stands(constraint.relation, row.version, constraint.version)
-}
-
-/// Whether a package satisfies one of some constraints.
-pub fn satisfies_one(text: &[u8], group: &[ConstraintRow], row: &PackageRow) -> bool
-    ensures { result ≡ row_satisfies_one text.now group.now row.now }
-{
-    for constraint in group {
-        if satisfies(text, constraint, row) {
-            return true;
-        }
+impl Stanzas<'_> {
+    /// Whether a package satisfies a constraint.
+    pub(crate) fn satisfies(&self, constraint: &ConstraintRow, row: &PackageRow) -> bool
+        ensures { result ≡ row_satisfies self.now.text.now constraint.now row.now }
+    {
+        let asked = bytes_of(self.text, constraint.name);
+        row.is_named(self.text, asked)
+            && stands(constraint.relation, row.version, constraint.version)
     }
-    false
+
+    /// Whether a package satisfies one of some constraints.
+    pub(crate) fn satisfies_one(&self, group: &[ConstraintRow], row: &PackageRow) -> bool
+        ensures { result ≡ row_satisfies_one self.now.text.now group.now row.now }
+    {
+        group
+            .iter()
+            .any(|constraint| self.satisfies(constraint, row))
+    }
 }

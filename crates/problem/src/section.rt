@@ -1,26 +1,23 @@
 //! Where in a problem document a line stands.
 ghost use Rattle.std.specs.Prelude.{◌≡◌, ℕ, List, length, IfOk};
 ghost use Rattle.std.specs.Option.{option_map};
-ghost use Rattle.text.specs.Left.{shown};
 ghost use Rattle.text.specs.Rows.{items, Same};
-ghost use Rattle.text.specs.Word.{Inside};
 ghost use Rattle.problem.specs.Drafts.{sought_of};
 ghost use Rattle.problem.specs.Growth.{ok_mapped};
 ghost use Rattle.problem.specs.Reading.{opened, closed};
+ghost use Rattle.problem.specs.Said.{said};
 ghost use Rattle.problem.specs.Sections.{place_of, state_of, row_of, package_limit, Files, SectionOk, Sound};
-ghost use Rattle.problem.specs.declared.section.Section.TheVariants.{Between};
 ghost use Rattle.problem.specs.declared.rows.ConstraintRow.{ConstraintRow as Asked};
 
 use crate::draft::Draft;
 use crate::fault::ProblemFault;
 use crate::head::begin;
 use crate::keys::{FirstKey, read_first_key};
+use crate::property_line::PropertyLine;
 use crate::rows::{NO_SPAN, PackageRow};
 use crate::view::PACKAGES_MOST;
-use crate::wanted::Wanted;
-use text::property::Property;
+use crate::wanted::{NOTHING_WANTED, Wanted};
 use text::rows::Rows;
-use text::word::bytes_of;
 
 /// Between stanzas, or in one.
 #[derive(Clone, Copy)]
@@ -39,33 +36,27 @@ pub(crate) struct Progress {
 
 /// Begins a stanza at its first line; `full` says that there is no place for one more package.
 pub(crate) fn open(
-    text: &[u8],
+    line: &PropertyLine<'_>,
     request: Option<Wanted>,
-    number: usize,
-    property: Property,
     full: bool,
 ) -> Result<Section, ProblemFault>
-    requires { Inside (length text.now) property.value }
-    ensures place { (cs : List Asked) → ok_mapped (place_of text.now cs) result ≡ opened number full (option_map (sought_of text.now cs) request) (shown text.now property) }
-    ensures good { (n : ℕ) → IfOk result (SectionOk (length text.now) n) }
+    ensures place { (cs : List Asked) → ok_mapped (place_of line.now.text.now cs) result ≡ opened line.now.number full (option_map (sought_of line.now.text.now cs) request) (said line.now) }
+    ensures good { (n : ℕ) → IfOk result (SectionOk (length line.now.text.now) n) }
 {
     if request.is_some() {
-        return Err(ProblemFault::Property(number));
+        return Err(ProblemFault::Property(line.number));
     }
-    match read_first_key(bytes_of(text, property.name)) {
+    match read_first_key(line.name()) {
         Some(FirstKey::Package) => {
-            let head = begin(text, number, property.value, full)?;
+            let head = begin(line, full)?;
             Ok(Section::Package(Draft {
                 head,
                 depends: None,
                 conflicts: None,
             }))
         }
-        Some(FirstKey::Request) => Ok(Section::Request(Wanted {
-            install: None,
-            remove: None,
-        })),
-        None => Err(ProblemFault::Property(number)),
+        Some(FirstKey::Request) => Ok(Section::Request(NOTHING_WANTED)),
+        None => Err(ProblemFault::Property(line.number)),
     }
 }
 
@@ -74,9 +65,7 @@ fn finish(draft: Draft) -> Result<PackageRow, ProblemFault>
     ensures { result ≡ row_of draft draft.head.version }
 {
     let head = draft.head;
-    let Some(version) = head.version else {
-        return Err(ProblemFault::Property(head.line));
-    };
+    let version = head.version.ok_or(ProblemFault::Property(head.line))?;
     Ok(PackageRow {
         line: head.line,
         name: head.name,
@@ -93,10 +82,9 @@ fn file(draft: Draft, packages: &mut Rows<'_, PackageRow>) -> Result<(), Problem
     ensures same { Same packages.old packages.new }
 {
     let row = finish(draft)?;
-    match packages.push_within(row, PACKAGES_MOST) {
-        Ok(()) => Ok(()),
-        Err(_) => Err(ProblemFault::TooMany(row.line)),
-    }
+    packages
+        .push_within(row, PACKAGES_MOST)
+        .map_err(|_| ProblemFault::TooMany(row.line))
 }
 
 /// Ends the stanza that is open, if one is.
@@ -114,23 +102,9 @@ pub(crate) fn close(
             section: Section::Between,
             request: Some(wanted),
         }),
-        Section::Package(draft) => {
-            let filed = file(draft, packages);
-            after_filing(filed, last.request)
-        }
+        Section::Package(draft) => file(draft, packages).map(|_| Progress {
+            section: Section::Between,
+            request: last.request,
+        }),
     }
-}
-
-/// Where the reading stands after a package stanza.
-fn after_filing(
-    filed: Result<(), ProblemFault>,
-    request: Option<Wanted>,
-) -> Result<Progress, ProblemFault>
-    ensures { result ≡ ok_mapped (λ _. record { section = Between; request = request }) filed }
-{
-    filed?;
-    Ok(Progress {
-        section: Section::Between,
-        request,
-    })
 }

@@ -1,46 +1,35 @@
 //! What an answer says of a package stanza.
 ghost use Rattle.std.specs.Prelude.{◌≡◌, slice_index_or};
-ghost use Rattle.problem.specs.Sets.{is_in, is_unnamed, standing};
+ghost use Rattle.problem.specs.Sets.{is_in, standing};
 ghost use Rattle.problem.specs.declared.standing.Standing.TheVariants.{Unnamed};
 
 /// Not named, named and not installed, or installed.
-#[derive(Clone, Copy)]
+#[derive(Clone, Copy, PartialEq, Eq)]
 pub enum Standing {
     Unnamed,
     Out,
     In,
 }
 
-impl Standing {
-    /// What is said of a stanza that is named.
-    pub(crate) fn of(installed: bool) -> Standing
-        ensures { result ≡ standing installed }
-    {
+/// What is said of a stanza that is named, by whether it is installed.
+impl From<bool> for Standing {
+    ghost from_gives = { λ b s. s ≡ standing b };
+
+    fn from(installed: bool) -> Standing {
         if installed {
             Standing::In
         } else {
             Standing::Out
         }
     }
+}
 
-    /// Whether the stanza is not named.
-    pub(crate) fn is_unnamed(self) -> bool
-        ensures { result ≡ is_unnamed self }
-    {
-        match self {
-            Standing::Unnamed => true,
-            Standing::Out | Standing::In => false,
-        }
-    }
-
+impl Standing {
     /// Whether the stanza is installed.
     pub fn is_in(self) -> bool
         ensures { result ≡ is_in self }
     {
-        match self {
-            Standing::In => true,
-            Standing::Unnamed | Standing::Out => false,
-        }
+        self == Standing::In
     }
 }
 
@@ -48,8 +37,5 @@ impl Standing {
 pub(crate) fn is_chosen(set: &[Standing], place: usize) -> bool
     ensures { result ≡ is_in (slice_index_or set.now place Unnamed) }
 {
-    match set.get(place) {
-        Some(standing) => standing.is_in(),
-        None => false,
-    }
+    set.get(place).is_some_and(|standing| standing.is_in())
 }

@@ -13,6 +13,8 @@ pub const PACKAGES_MOST: usize = 256;
 /// The most constraints of a problem.
 pub const CONSTRAINTS_MOST: usize = 1024;
 
+// Each count stands beside the whole of its memory, since the promise is that zeros stand in the places past it.
+
 /// A problem. The first `count` rows of `packages` and the first `asked` of `constraints` are its own, and zeros
 /// stand after them.
 #[derive(Clone, Copy)]

@@ -5,26 +5,6 @@ use Rattle.std.proofs.lemmas.Bool.{cases_lt}
 use Rattle.text.specs.declared.word.Word.{Word}
 use Rattle.text.specs.Word.{word_in}
 
-drop_clamped : (xs : List ℕ) (a : ℕ) → drop (min a (length xs)) xs ≡ drop a xs
-drop_clamped xs a =
-    elim (cases_lt a (length xs)) [
-      | inl l ↦ let e : min a (length xs) ≡ a = omega arith in rw e refl
-      | inr l ↦ let e : min a (length xs) ≡ length xs = omega arith in rw (e, drop_all (length xs) xs (omega arith)) (sym (drop_all a xs l))
-    ]
-
-take_clamped : (xs : List ℕ) (n : ℕ) → take (min n (length xs)) xs ≡ take n xs
-take_clamped xs n =
-    elim (cases_lt n (length xs)) [
-      | inl l ↦ let e : min n (length xs) ≡ n = omega arith in rw e refl
-      | inr l ↦ let e : min n (length xs) ≡ length xs = omega arith in rw (e, take_all (length xs) xs (omega arith)) (sym (take_all n xs l))
-    ]
-
-pub word_clamped : (xs : List ℕ) (w : Word) (s m : ℕ) → s ≡ min w.start (length xs) → m ≡ min w.len (length xs - s) → take m (drop s xs) ≡ word_in xs w
-word_clamped xs w s m e f =
-    let d : drop s xs ≡ drop w.start xs = ap (λ t. drop t xs) e ∙ drop_clamped xs w.start in
-    let l : length xs - s ≡ length (drop s xs) = sym (length-drop s xs) in
-    ap (λ t. take t (drop s xs)) (f ∙ ap (min w.len) l) ∙ take_clamped (drop s xs) w.len ∙ ap (take w.len) d
-
 -- a part of a part
 pub word_within : (text : List ℕ) (w : Word) (k n : ℕ) → k + n ≤ w.len → word_in text (record { start = w.start + k; len = n }) ≡ take n (drop k (word_in text w))
 word_within text w k n h =

@@ -3,7 +3,6 @@ pub mod Clamps
 pub mod Cuts
 pub mod Docs
 pub mod Members
-pub mod Signs
 pub mod Spans
 pub mod Trims
 pub mod Values

@@ -17,9 +17,6 @@ pub row_more : {T : Type 0} (xs base now next : List T) (i : ℕ) (y : T) → i 
 row_more xs base now next i y lt q h n =
     n ∙ ap (λ t. t ++ y ∷ []) h ∙ append_assoc base (take i xs) (y ∷ []) ∙ ap (λ t. base ++ t) (ap (λ z. take i xs ++ z ∷ []) q ∙ sym (take_more xs i y lt))
 
-pub row_full : {T : Type 0} (xs base now : List T) (i most : ℕ) → i < length xs → now ≡ base ++ take i xs → most ≤ length now → most < length base + length xs
-row_full xs base now i most lt h le = omega (arith, ap length h, length-append base (take i xs), length-take-le i xs (omega arith))
-
 -- the last row after the others
 pub last_row : {T U F : Type 0} (r mid s : Rows T) (front : List T) (y : T) (xs : List T) (o : Result U F) → items mid ≡ items r ++ front → room mid ≡ room r → xs ≡ front ++ y ∷ [] → Pushes (room mid) (items mid) y (items s) o → Appends r xs o s
 last_row r mid s front y xs (Ok u) h m e p = p.1 ∙ ap (λ t. t ++ y ∷ []) h ∙ append_assoc (items r) front (y ∷ []) ∙ ap (λ t. items r ++ t) (sym e)

@@ -5,9 +5,9 @@ ghost use Rattle.text.specs.Left.{shown};
 ghost use Rattle.text.specs.Pieces.{property};
 ghost use Rattle.text.specs.Word.{word_in, Inside};
 
-use crate::find::index_of;
+use crate::find::split_once;
 use crate::spaces::trim_word;
-use crate::word::{Word, bytes_of, clamped};
+use crate::word::Word;
 
 /// A line's name and value.
 #[derive(Clone, Copy)]
@@ -21,20 +21,9 @@ pub fn read_property(text: &[u8], line: Word) -> Option<Property>
     ensures value { option_map (shown text.now) result ≡ property (word_in text.now line) }
     ensures inside { IfSome result (λ p. Inside (length text.now) p.value) }
 {
-    let line = clamped(text, line);
-    let n = index_of(bytes_of(text, line), b':');
-    if n >= line.len {
-        return None;
-    }
-    let value = Word {
-        start: line.start + n + 1,
-        len: line.len - n - 1,
-    };
+    let (name, value) = split_once(text, line, b':')?;
     Some(Property {
-        name: Word {
-            start: line.start,
-            len: n,
-        },
+        name,
         value: trim_word(text, value),
     })
 }

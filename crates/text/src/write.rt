@@ -18,6 +18,7 @@ pub fn push_all<T: Copy>(out: &mut Rows<'_, T>, rows: &[T]) -> Result<(), Full>
 }
 
 /// Writes a number in decimal digits after the bytes. Where it is refused, the first of them may have been written.
+#[tactic(auto, using(crate::proofs::Writing::only_row, crate::proofs::Writing::last_row, crate::proofs::Writing::digits_full, std::proofs::lemmas::Fmt::decimal_digit, std::proofs::lemmas::Fmt::decimal_step))]
 pub fn push_decimal(out: &mut Rows<'_, u8>, n: u64) -> Result<(), Full>
     ensures appends { Appends out.old (numeral n) result out.new }
     ensures same { Same out.old out.new }

@@ -2,16 +2,13 @@
 #![tactic(auto)]
 
 use anyhow::anyhow;
-use clauses::row::Row;
-use clauses::watched::Watched;
-use problem::rows::{NO_CONSTRAINT, NO_PACKAGE};
-use problem::standing::Standing;
-use problem::view::{CONSTRAINTS_MOST, PACKAGES_MOST};
+use memory::Memory;
 use std::io::{Read, Write};
 use std::{fs, io};
-use verdict::check::{FILE_MOST, check};
+use verdict::check::FILE_MOST;
 use verdict::line::{Line, write_line};
-use verdict::room::{CLAUSES, LITERALS, STEP_HINTS, STEP_LITERALS, VARIABLES};
+
+mod memory;
 
 /// Room for the longest line.
 const LINE_MOST: usize = 64;
@@ -40,56 +37,12 @@ fn print_line(rt: &HostRuntime, line: Line) -> anyhow::Result<()> {
     Ok(())
 }
 
-/// The line that three files come to, with the room that the program has.
-fn judge(
-    rt: &HostRuntime,
-    problem: &[u8],
-    answer: &[u8],
-    certificate: &[u8],
-) -> anyhow::Result<Line> {
-    let heap = rt.alloc();
-    let mut packages = vec![in heap; NO_PACKAGE; PACKAGES_MOST]?;
-    let mut constraints = vec![in heap; NO_CONSTRAINT; CONSTRAINTS_MOST]?;
-    let mut table = vec![in heap; Standing::Unnamed; PACKAGES_MOST]?;
-    let mut rows = vec![in heap; Row::NONE; CLAUSES]?;
-    let mut held = vec![in heap; 0i32; LITERALS]?;
-    let mut values = vec![in heap; None; VARIABLES + 1]?;
-    let mut trail = vec![in heap; 0i32; VARIABLES + 1]?;
-    let mut heads = vec![in heap; 0u32; 2 * (VARIABLES + 1)]?;
-    let mut next = vec![in heap; 0u32; LITERALS]?;
-    let mut owners = vec![in heap; 0u32; LITERALS]?;
-    let mut places = vec![in heap; 0u32; 2 * CLAUSES]?;
-    let mut base = Watched::new(
-        &mut rows,
-        &mut held,
-        &mut values,
-        &mut trail,
-        &mut heads,
-        &mut next,
-        &mut owners,
-        &mut places,
-    );
-    let mut literals = vec![in heap; 0i32; STEP_LITERALS]?;
-    let mut hints = vec![in heap; 0u32; STEP_HINTS]?;
-    Ok(check(
-        problem,
-        answer,
-        certificate,
-        &mut packages,
-        &mut constraints,
-        &mut table,
-        &mut base,
-        &mut literals,
-        &mut hints,
-    ))
-}
-
 fn run(rt: &HostRuntime) -> anyhow::Result<()> {
     let problem = read_file(rt, "problem")?;
     let answer = read_file(rt, "answer")?;
     let certificate = read_file(rt, "certificate")?;
-    let line = judge(rt, &problem, &answer, &certificate)?;
-    print_line(rt, line)
+    let mut memory = Memory::new(rt.alloc())?;
+    print_line(rt, memory.line(&problem, &answer, &certificate))
 }
 
 fn main(rt: HostRuntime) -> anyhow::Result<()> {

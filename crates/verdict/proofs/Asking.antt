@@ -1,5 +1,5 @@
 -- Steps asked one after the other.
-use Rattle.std.proofs.Common.{◌≡◌, ℕ, zero, suc, ◌+◌, ◌<◌, ◌≤◌, List, [], ◌∷◌, ◌++◌, length, take, drop, set, ℤ, sym, refl, ap, ◌∙◌, subst, add-one, take_all, take-suc-set}
+use Rattle.std.proofs.Common.{◌≡◌, ℕ, zero, suc, ◌+◌, ◌<◌, List, [], ◌∷◌, ◌++◌, length, take, drop, set, ℤ, sym, refl, ap, ◌∙◌, subst, add-one, take-suc-set}
 use Rattle.certificate.specs.Stream.{Placed, Ending, finished, broken}
 use Rattle.certificate.specs.Reading.{Memory, memory_of, Leaves}
 use Rattle.verdict.specs.Session.{Desk, Judged, AskedOf, Asked, Run}
@@ -18,9 +18,6 @@ same_memory ls ls' hs hs' e f = ap {B = Memory} (λ n. record { literals = n; hi
 pub run_write : (k k' : Memory) (d : Desk) (rs : List Reply) (i : ℕ) (d' : Desk) (r : Reply) (d'' : Desk) → i < length rs → k' ≡ k → Run k d (take i rs) d' → Asked k' d' r d'' → Run k d (take (i + 1) (set rs i r)) d''
 run_write k k' d rs i d' r d'' h e x a =
     subst (λ y. Run k d y d'') (sym (ap (λ n. take n (set rs i r)) (add-one i) ∙ take-suc-set rs i r h)) (run_more k d (take i rs) d' r d'' x (subst (λ y. Asked y d' r d'') e a))
-
-pub run_all : (k : Memory) (d : Desk) (rs : List Reply) (i : ℕ) (d' : Desk) → length rs ≤ i → Run k d (take i rs) d' → Run k d rs d'
-run_all k d rs i d' h x = subst (λ y. Run k d y d') (take_all i rs h) x
 
 -- each step asked is taken off the source
 judged_off : (k : Memory) (d d' : Desk) (p : Placed) (ps : List Placed) (r : Reply) → Judged k d p ps r d' → d'.source.steps ≡ ps
@@ -44,7 +41,3 @@ off_more k d d' r i ps e x = asked_off k d d' d.source.steps d.source.ending r r
 pub leaves_more : (k k' : Memory) (ps qs : List Placed) (i : ℕ) (ls : List ℤ) (hs : List ℕ) (ls' : List ℤ) (hs' : List ℕ) → k' ≡ k → qs ≡ drop i ps → Leaves k' qs ls' hs' → LeavesAfter k ps (i + 1) ls hs ls' hs'
 leaves_more k k' ps qs i ls hs ls' hs' e f x =
     subst (λ n. LeavesAfter k ps n ls hs ls' hs') (sym (add-one i)) (subst (λ y. Leaves k y ls' hs') f (subst (λ y. Leaves y qs ls' hs') e x))
-
--- memory of the same size, that held other numbers at first
-pub leaves_from : (k k' : Memory) (ps : List Placed) (n : ℕ) (ls₀ ls : List ℤ) (hs : List ℕ) (ls' : List ℤ) (hs' : List ℕ) → k' ≡ k → ls₀ ≡ ls → LeavesAfter k' ps n ls₀ hs ls' hs' → LeavesAfter k ps n ls hs ls' hs'
-leaves_from k k' ps n ls₀ ls hs ls' hs' e f x = subst (λ y. LeavesAfter k ps n y hs ls' hs') f (subst (λ y. LeavesAfter y ps n ls₀ hs ls' hs') e x)

@@ -238,7 +238,7 @@ module _ (q : Problem) (r c : ℕ) (other A : Chosen) (told' : Told q r c other 
       top = at_most_r q r c (inputs q r c)
 
 -- so where nothing makes them all true, no plan beats the counts
-pub unbeaten : (q : Problem) (r c : ℕ) → r ≤ inputs q r c → c ≤ all_names q r c → ((A : Chosen) → Each (True A) (opening q r c) → ⊥) → Unbeaten q r c
+pub unbeaten : (q : Problem) (r c : ℕ) → r ≤ inputs q r c → c ≤ all_names q r c → ((A : Chosen) → Each (True A) (opening q r c) → ⊥) → Unbeaten q (record { removed = r; changed = c })
 unbeaten q r c br bc none other p = by-removed (cases_order (removed_count q other) r)
   where
     beaten : removed_count q other ≤ r → (removed_count q other < r) ⊎ (changed_count q other < c) → ⊥

@@ -1,7 +1,6 @@
 -- A session from its opening to its verdict.
-use Rattle.std.proofs.Common.{◌≡◌, ℕ, suc, ◌≤◌, not, T, List, length, Some, None, Ok, Err, Option, Result, sym, refl, ap, ◌∙◌, subst, T_not}
+use Rattle.std.proofs.Common.{◌≡◌, ℕ, suc, ◌≤◌, Bool, true, false, cond, not, T, List, length, Some, None, Ok, Err, Option, Result, sym, refl, ap, ◌∙◌, subst, T_not}
 use Rattle.verdict.specs.declared.session.Open.{Open}
-use Rattle.verdict.specs.declared.session.Claim.{Claim}
 use Rattle.verdict.specs.declared.outcome.OpenFault.{OpenFault}
 use Rattle.verdict.specs.declared.outcome.OpenFault.TheVariants.{NotPlan, NoRoom, InTrial}
 use Rattle.verdict.specs.declared.outcome.SessionFault.{SessionFault}
@@ -14,7 +13,7 @@ use Rattle.certificate.specs.Stream.{Stream}
 use Rattle.certificate.specs.Reading.{Memory}
 use Rattle.verdict.specs.Session.{Run, Answer, fail, set, opens, opening_fits, desk_on, IsPlanOrFail}
 use Rattle.verdict.specs.Law.{Means, verdict_of, up_to_empty}
-use Rattle.verdict.specs.Opened.{desk_of, plan_fault, claim_of, verdict_for, Opens, OnlyRefused, Concludes, TrueVerdict, Complete}
+use Rattle.verdict.specs.Opened.{desk_of, plan_fault, claim_of, verdict_for, closing, Opens, OnlyRefused, Concludes, TrueVerdict, Complete}
 use Rattle.problem.proofs.Agreement.{plans_agree}
 use Rattle.verdict.proofs.Law.{law}
 
@@ -30,33 +29,33 @@ pub same_verdict : (q : Problem) (a : Answer) → verdict_for (claim_of q a) ≡
 same_verdict q fail = refl
 same_verdict q (set s) = refl
 
-pub only_refused : (m m' : Meaning) (q : Problem) (a : Answer) (r : Result Open OpenFault) → Opens m q a r m' → OnlyRefused m q a r
-only_refused m m' q a (Ok o) h = tt
-only_refused m m' q a (Err InTrial) h = λ i p. absurd (h.0 i)
-only_refused m m' q a (Err (NotPlan n)) h = λ i p. absurd (subst there (sym (no_fault q a p) ∙ h.1) tt)
+pub only_refused : (q : Problem) (a : Answer) (m m' : Meaning) (r : Result Open OpenFault) → Opens m q a r m' → OnlyRefused m q a r
+only_refused q a m m' (Ok o) h = tt
+only_refused q a m m' (Err InTrial) h = λ i p. absurd (h.0 i)
+only_refused q a m m' (Err (NotPlan n)) h = λ i p. absurd (subst there (sym (no_fault q a p) ∙ h.1) tt)
   where
     there : Option ℕ → Type 0
     there None = Unit {0}
     there (Some x) = ⊥
-only_refused m m' q a (Err NoRoom) h = λ i p. h.2
+only_refused q a m m' (Err NoRoom) h = λ i p. h.2
 
-pub not_opened : (m m' : Meaning) (q : Problem) (a : Answer) (f : OpenFault) → Opens m q a (Err f) m' → m.trial ≡ idle → IsPlanOrFail q a → T (opening_fits m q a) → ⊥
-not_opened m m' q a f o i p t = T_not (opening_fits m q a) (only_refused m m' q a (Err f) o i p) t
+-- a plan, or no set at all, opens where there is room and no trial
+pub not_opened : (q : Problem) (a : Answer) (m m' : Meaning) (f : OpenFault) → Opens m q a (Err f) m' → m.trial ≡ idle → IsPlanOrFail q a → T (opening_fits m q a) → ⊥
+not_opened q a m m' f o i p t = T_not (opening_fits m q a) (only_refused q a m m' (Err f) o i p) t
 
-module _ (q : Problem) (a : Answer) (k k' : Memory) (m m₁ m' : Meaning) (s s' : Stream) (o o' : Open) (rs : List Reply)
-    (opened : Opens m q a (Ok o) m₁) (same : k' ≡ k) (ran : Run k' (desk_of o m₁ s) rs (desk_of o' m' s')) where
+module _ (q : Problem) (a : Answer) (k : Memory) (m m₁ m' : Meaning) (s s' : Stream) (o o' : Open) (rs : List Reply)
+    (opened : Opens m q a (Ok o) m₁) (ran : Run k (desk_of o m₁ s) rs (desk_of o' m' s')) where
   run : Run k (desk_on (opens m q a) s) rs (desk_of o' m' s')
   run =
-      subst (λ y. Run y (desk_on (opens m q a) s) rs (desk_of o' m' s')) same
-      (subst (λ y. Run k' (desk_of y (opens m q a) s) rs (desk_of o' m' s')) opened.4
-      (subst (λ y. Run k' (desk_of o y s) rs (desk_of o' m' s')) opened.3 ran))
+      subst (λ y. Run k (desk_of y (opens m q a) s) rs (desk_of o' m' s')) opened.4
+      (subst (λ y. Run k (desk_of o y s) rs (desk_of o' m' s')) opened.3 ran)
 
-  pub concludes-verdict : (rs₀ : List Reply) (f : Claim) (v : Verdict) → o'.claim ≡ o.claim → T o'.emptied → f ≡ o'.claim → v ≡ verdict_for f → Concludes q a k m s rs₀ (Ok v) rs m' s'
-  concludes-verdict rs₀ f v kept e g h =
-      (desk_of o' m' s', (opened.0, opened.1, opened.2, run, refl, refl, e, h ∙ ap verdict_for (g ∙ kept ∙ ap (λ y. y.claim) opened.4) ∙ same_verdict q a))
-
-  pub concludes-unclosed : (rs₀ : List Reply) (p : ℕ) → T (not o'.emptied) → p ≡ suc o'.last → Concludes q a k m s rs₀ (Err (Unclosed p)) rs m' s'
-  concludes-unclosed rs₀ p e g = (desk_of o' m' s', (opened.0, opened.1, opened.2, run, refl, refl, e, g))
+  pub concludes : (rs₀ : List Reply) (r : Result Verdict SessionFault) → o'.claim ≡ o.claim → r ≡ closing o' → Concludes q a k m s rs₀ r rs m' s'
+  concludes rs₀ r kept e = subst (λ y. Concludes q a k m s rs₀ y rs m' s') (sym e) (pick o'.emptied refl)
+    where
+      pick : (b : Bool) → o'.emptied ≡ b → Concludes q a k m s rs₀ (cond b (Ok (verdict_for o'.claim)) (Err (Unclosed (suc o'.last)))) rs m' s'
+      pick true t = (desk_of o' m' s', (opened.0, opened.1, opened.2, run, refl, refl, subst T (sym t) tt, ap verdict_for (kept ∙ ap (λ y. y.claim) opened.4) ∙ same_verdict q a))
+      pick false t = (desk_of o' m' s', (opened.0, opened.1, opened.2, run, refl, refl, subst (λ y. T (not y)) (sym t) tt, refl))
 
 -- what a whole run comes to, by the law
 module _ (q : Problem) (a : Answer) (k : Memory) (m m' : Meaning) (s s' : Stream) (rs rs' : List Reply) where
@@ -68,4 +67,4 @@ module _ (q : Problem) (a : Answer) (k : Memory) (m m' : Meaning) (s s' : Stream
   complete n e (Ok v) c i p t good within = ap Ok c.1.7
   complete n e (Err (Unclosed z)) c i p t good within =
       absurd (T_not c.0.emptied c.1.6 (law.complete q a m s k rs' c.0 good (subst (λ y. up_to_empty s.steps ≤ y) (sym e) within) c.1.3))
-  complete n e (Err (Opening f)) c i p t good within = absurd (not_opened m m' q a f c.0 i p t)
+  complete n e (Err (Opening f)) c i p t good within = absurd (not_opened q a m m' f c.0 i p t)

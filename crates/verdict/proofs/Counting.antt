@@ -1,10 +1,12 @@
 -- The clauses of a counter, as they are written.
-use Rattle.std.proofs.Common.{◌≡◌, ℕ, zero, suc, ◌+◌, ◌-◌, ◌*◌, ◌<◌, ◌≤◌, Bool, true, false, List, [], ◌∷◌, ◌++◌, ℤ, sym, refl, ap, ◌∙◌, subst, mul-le-mul_right, suc-mul, arith, w32, SFits, to_z, of_z}
+use Rattle.std.proofs.Common.{◌≡◌, ℕ, zero, suc, ◌+◌, ◌-◌, ◌*◌, List, [], ◌∷◌, ◌++◌, ℤ, Ok, Err, sym, refl, ap, ◌∙◌, suc-mul, arith, w32, SFits, to_z, of_z}
+use Rattle.std.specs.Result.{IsErr}
 use Rattle.std.proofs.lemmas.Int.{to_z-of_z}
 use Rattle.text.specs.Lists.{each, each_all, up_from}
 use Rattle.text.specs.Literals.{Clause, lit, neg}
 use Rattle.problem.specs.Feeding.{Fed, Left}
-use Rattle.problem.proofs.Feeds.{fed_on, fed_stop, fed_as, fed_one}
+use Rattle.problem.specs.declared.sink.Stopped.{Stopped}
+use Rattle.problem.proofs.Feeds.{Taken, fed_on, fed_stop, fed_as, fed_one}
 use Rattle.verdict.specs.Opening.{counter_input, counter}
 
 -- the literals of a clause as they lie in memory
@@ -26,21 +28,6 @@ inputs_are base K first i zero = refl
 inputs_are base K first i (suc n) =
     let z : suc (first + i) ≡ first + suc i = omega arith in
     ap (λ ys. counter_input base K (neg (first + i)) (suc i) ++ ys) (ap (λ f. counter base K (suc (suc i)) (up_from f n)) z ∙ inputs_are base K first (suc i) n)
-
--- where an input's registers begin, and those before them
-module _ (base limit place : ℕ) where
-  pub row_fits : (m n : ℕ) → place < n → base + n * limit ≤ m → base + suc place * limit ≤ m
-  row_fits m n l h = omega (arith, mul-le-mul_right {m = suc place} {n = n} limit (omega arith))
-
-  pub row_more : suc place * limit ≡ place * limit + limit
-  row_more = suc-mul place limit
-
-  pub row_holds : (place ≡ 0 → ⊥) → limit ≤ place * limit
-  row_holds h = go place refl
-    where
-      go : (p : ℕ) → p ≡ place → limit ≤ place * limit
-      go zero e = absurd (h (sym e))
-      go (suc p) e = subst (λ q. limit ≤ q * limit) e (omega (arith, suc-mul p limit))
 
 -- a later input's clauses by where its registers begin
 module _ (nx : ℤ) (row before : ℕ) where
@@ -75,17 +62,16 @@ module _ {S : Type 0} (goes stops : S → Clause → S → Type 0) (base limit p
   abbrev row : ℕ
   row = base + place * limit
 
-  fed_rest : (r : Bool) (s m t : S) → goes s c m → Fed goes stops (keeping nx row (row - limit) limit ++ raising nx row (row - limit) (limit - 1)) r m t → Fed goes stops (counter_input base limit nx (suc place)) r s t
+  fed_rest : (r : Taken) (s m t : S) → goes s c m → Fed goes stops (keeping nx row (row - limit) limit ++ raising nx row (row - limit) (limit - 1)) r m t → Fed goes stops (counter_input base limit nx (suc place)) r s t
   fed_rest r s m t k f =
       fed_as goes stops _ _ r s t (sym (input_is base limit place nx row h g refl))
-      (fed_on goes stops ((nx ∷ lit row ∷ []) ∷ []) _ r s m t (fed_one goes stops _ c true s m (ap (λ y. y ∷ []) (sym e)) k) f)
+      (fed_on goes stops ((nx ∷ lit row ∷ []) ∷ []) _ r s m t (fed_one goes stops _ c (Ok tt) s m (ap (λ y. y ∷ []) (sym e)) k) f)
 
-  pub fed_input : (r : Bool) (s m n t : S) → goes s c m → Fed goes stops (keeping nx row (row - limit) limit) true m n → Fed goes stops (raising nx row (row - limit) (limit - 1)) r n t → Fed goes stops (counter_input base limit nx (suc place)) r s t
+  pub fed_input : (r : Taken) (s m n t : S) → goes s c m → Fed goes stops (keeping nx row (row - limit) limit) (Ok tt) m n → Fed goes stops (raising nx row (row - limit) (limit - 1)) r n t → Fed goes stops (counter_input base limit nx (suc place)) r s t
   fed_input r s m n t k f d = fed_rest r s m t k (fed_on goes stops _ _ r m n t f d)
 
-  pub fed_keeping : (r : Bool) (s m t : S) → r ≡ false → goes s c m → Fed goes stops (keeping nx row (row - limit) limit) r m t → Fed goes stops (counter_input base limit nx (suc place)) r s t
-  fed_keeping true s m t z k f = let y : ◌≡◌ {A = ℕ} 0 1 = cc in absurd (omega arith)
-  fed_keeping false s m t z k f = fed_rest false s m t k (fed_stop goes stops _ _ m t f)
+  pub fed_keeping : (w : Stopped) (r : Taken) (s m t : S) → IsErr r → goes s c m → Fed goes stops (keeping nx row (row - limit) limit) (Err w) m t → Fed goes stops (counter_input base limit nx (suc place)) r s t
+  fed_keeping w r s m t j k f = fed_rest r s m t k (fed_stop goes stops _ _ w r m t j f)
 
 pub inputs_left : {S : Type 0} (goes stops : S → Clause → S → Type 0) (base K first n : ℕ) (s : S) →
     Left goes stops (counter base K 1 (up_from first n)) s (each_all (λ k. counter_input base K (neg (first + k)) (suc k)) (up_from (0 + 0) (n - 0))) s

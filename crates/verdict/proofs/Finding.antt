@@ -1,16 +1,17 @@
 -- A whole run up to the first refusal, by the law.
-use Rattle.std.proofs.Common.{◌≡◌, ℕ, zero, suc, Bool, true, false, cond, T, List, [], ◌∷◌, length, replicate, ℤ, pos, Ok, Err, Result, sym, refl, ap, ◌∙◌, subst}
+use Rattle.std.proofs.Common.{◌≡◌, ℕ, zero, suc, Bool, true, false, cond, T, List, [], ◌∷◌, Ok, Err, Result, sym, refl, ap, ◌∙◌, subst}
 use Rattle.problem.specs.Cudf.{Problem}
 use Rattle.clauses.specs.ClauseBase.{Meaning}
 use Rattle.certificate.specs.Reading.{Memory}
 use Rattle.certificate.specs.Stream.{Placed, Ending, finished, broken, Stream}
-use Rattle.verdict.specs.Finding.{Asked as WasAsked, Closed, Ends, Finds, FindLeaves, FoundTrue, Found}
+use Rattle.verdict.specs.Finding.{Asked as WasAsked, in_run, ending, Finds, FoundTrue, Found}
 use Rattle.verdict.specs.Law.{Means}
 use Rattle.verdict.specs.Onward.{Stops, OnAfter, Onward}
 use Rattle.verdict.specs.Opened.{desk_of, Opens, verdict_for}
-use Rattle.verdict.specs.Session.{Desk, AskedOf, Asked, Answer, opens, desk_on}
+use Rattle.verdict.specs.Session.{Desk, AskedOf, Asked, Answer, opens}
 use Rattle.verdict.specs.declared.outcome.RunFault.{RunFault}
-use Rattle.verdict.specs.declared.outcome.RunFault.TheVariants.{Opening, Step, Unclosed}
+use Rattle.verdict.specs.declared.outcome.RunFault.TheVariants.{Session, Step}
+use Rattle.verdict.specs.declared.outcome.SessionFault.TheVariants.{Opening, Unclosed}
 use Rattle.verdict.specs.declared.outcome.Verdict.{Verdict}
 use Rattle.verdict.specs.declared.reply.Reply.{Reply}
 use Rattle.verdict.specs.declared.reply.Reply.TheVariants.{Taken, Refused, Nothing}
@@ -37,35 +38,36 @@ ends_open zero k d d' x = pick d.emptied refl x
     pick false e x = ap (λ y. y.emptied) (still_asked k d d' d.source.steps d.source.ending x.1) ∙ e
 ends_open (suc n) k d d' x = ends_open n k x.0 d' x.1.2
 
-module _ (q : Problem) (a : Answer) (k k' : Memory) (m m₁ m' : Meaning) (s s' : Stream) (o o' : Open) (opened : Opens m q a (Ok o) m₁) (same : k' ≡ k) (kept : o'.claim ≡ o.claim) where
-  was_asked : (r : Reply) → Onward k' (desk_of o m₁ s) r (desk_of o' m' s') → WasAsked q a k m s r (desk_of o' m' s') m' s'
+module _ (q : Problem) (a : Answer) (k : Memory) (m m₁ m' : Meaning) (s s' : Stream) (o o' : Open) (opened : Opens m q a (Ok o) m₁) (kept : o'.claim ≡ o.claim) where
+  was_asked : (r : Reply) → Onward k (desk_of o m₁ s) r (desk_of o' m' s') → WasAsked q a k m s r (desk_of o' m' s') m' s'
   was_asked r w = record {
     untried = opened.0;
     plan = opened.1;
     fits = opened.2;
-    onward = subst (λ y. Onward y (desk_on (opens m q a) s) r (desk_of o' m' s')) same
-        (subst (λ y. Onward k' (desk_of y (opens m q a) s) r (desk_of o' m' s')) opened.4
-        (subst (λ y. Onward k' (desk_of o y s) r (desk_of o' m' s')) opened.3 w));
+    onward = subst (λ y. Onward k (desk_of y (opens m q a) s) r (desk_of o' m' s')) opened.4 (subst (λ y. Onward k (desk_of o y s) r (desk_of o' m' s')) opened.3 w);
     base = refl;
     source = refl;
   }
 
-  pub finds : (r : Reply) (v : Result Verdict RunFault) → Onward k' (desk_of o m₁ s) r (desk_of o' m' s') → Ends o' r v → Finds q a k m s v m' s'
-  finds (Refused f p) v w e = subst (λ y. Finds q a k m s y m' s') (sym e) (desk_of o' m' s', was_asked (Refused f p) w)
-  finds Taken v w e =
-      subst (λ y. Finds q a k m s y m' s') (sym (pick o'.emptied (ends_emptied w.accepted k' (desk_of o m₁ s) (desk_of o' m' s') w.asked) e))
-      (desk_of o' m' s', (was_asked Taken w, ap verdict_for (kept ∙ ap (λ y. y.claim) opened.4) ∙ same_verdict q a))
+  pub finds : (r : Reply) (v : Result Verdict RunFault) → Onward k (desk_of o m₁ s) r (desk_of o' m' s') → v ≡ ending o' r → Finds q a k m s v m' s'
+  finds r v w e = subst (λ y. Finds q a k m s y m' s') (sym e) (found_at r w)
     where
-      pick : (b : Bool) → T b → cond b (v ≡ Ok (verdict_for o'.claim)) (v ≡ Err (Unclosed (suc o'.last))) → v ≡ Ok (verdict_for o'.claim)
-      pick true t e = e
-      pick false t e = absurd t
-  finds Nothing v w e =
-      subst (λ y. Finds q a k m s y m' s') (sym (pick o'.emptied (ends_open w.accepted k' (desk_of o m₁ s) (desk_of o' m' s') w.asked) e))
-      (desk_of o' m' s', (was_asked Nothing w, refl))
-    where
-      pick : (b : Bool) → b ≡ false → cond b (v ≡ Ok (verdict_for o'.claim)) (v ≡ Err (Unclosed (suc o'.last))) → v ≡ Err (Unclosed (suc o'.last))
-      pick true t e = absurd (subst T t tt)
-      pick false t e = e
+      emptied : (b : Bool) → T b → in_run (cond b (Ok (verdict_for o'.claim)) (Err (Unclosed (suc o'.last)))) ≡ Ok (verdict_for o'.claim)
+      emptied true t = refl
+      emptied false t = absurd t
+
+      still_open : (b : Bool) → b ≡ false → in_run (cond b (Ok (verdict_for o'.claim)) (Err (Unclosed (suc o'.last)))) ≡ Err (Session (Unclosed (suc o'.last)))
+      still_open true t = absurd (subst T t tt)
+      still_open false t = refl
+
+      found_at : (r : Reply) → Onward k (desk_of o m₁ s) r (desk_of o' m' s') → Finds q a k m s (ending o' r) m' s'
+      found_at (Refused f p) w = (desk_of o' m' s', was_asked (Refused f p) w)
+      found_at Taken w =
+          subst (λ y. Finds q a k m s y m' s') (sym (emptied o'.emptied (ends_emptied w.accepted k (desk_of o m₁ s) (desk_of o' m' s') w.asked)))
+          (desk_of o' m' s', (was_asked Taken w, ap verdict_for (kept ∙ ap (λ y. y.claim) opened.4) ∙ same_verdict q a))
+      found_at Nothing w =
+          subst (λ y. Finds q a k m s y m' s') (sym (still_open o'.emptied (ends_open w.accepted k (desk_of o m₁ s) (desk_of o' m' s') w.asked)))
+          (desk_of o' m' s', (was_asked Nothing w, refl))
 
 module _ (q : Problem) (a : Answer) (k : Memory) (m m' : Meaning) (s s' : Stream) where
   pub found_true : (v : Result Verdict RunFault) → Finds q a k m s v m' s' → FoundTrue q a v
@@ -75,21 +77,5 @@ module _ (q : Problem) (a : Answer) (k : Memory) (m m' : Meaning) (s s' : Stream
   pub found : (v : Result Verdict RunFault) → Finds q a k m s v m' s' → Found q a k m s v
   found (Ok v) f i p t good = ap Ok f.1.1
   found (Err (Step e n)) f i p t good = absurd (subst Stops (onward_law.complete q a m s k (Refused e n) f.0 good f.1.onward) tt)
-  found (Err (Unclosed n)) f i p t good = absurd (subst Stops (onward_law.complete q a m s k Nothing f.0 good f.1.0.onward) tt)
-  found (Err (Opening e)) f i p t good = absurd (not_opened m m' q a e f.0 i p t)
-
-module _ (ls ls₁ ls' : List ℤ) (hs hs' : List ℕ) (kept : length ls₁ ≡ length ls) (zero-literals : ls' ≡ replicate (length ls₁) (pos 0)) (zero-hints : hs' ≡ replicate (length hs) 0) where
-  zeros : (ls' ≡ replicate (length ls) (pos 0)) × (hs' ≡ replicate (length hs) 0)
-  zeros = (zero-literals ∙ ap (λ n. replicate n (pos 0)) kept, zero-hints)
-
-  closed_leaves : (o : Open) (v : Result Verdict RunFault) → Closed o v → FindLeaves ls hs v ls' hs'
-  closed_leaves o v e = pick o.emptied e
-    where
-      pick : (b : Bool) → cond b (v ≡ Ok (verdict_for o.claim)) (v ≡ Err (Unclosed (suc o.last))) → FindLeaves ls hs v ls' hs'
-      pick true e = subst (λ y. FindLeaves ls hs y ls' hs') (sym e) zeros
-      pick false e = subst (λ y. FindLeaves ls hs y ls' hs') (sym e) zeros
-
-  pub find_leaves : (o : Open) (r : Reply) (v : Result Verdict RunFault) → Ends o r v → FindLeaves ls hs v ls' hs'
-  find_leaves o (Refused f p) v e = subst (λ y. FindLeaves ls hs y ls' hs') (sym e) zeros
-  find_leaves o Taken v e = closed_leaves o v e
-  find_leaves o Nothing v e = closed_leaves o v e
+  found (Err (Session (Unclosed n))) f i p t good = absurd (subst Stops (onward_law.complete q a m s k Nothing f.0 good f.1.0.onward) tt)
+  found (Err (Session (Opening e))) f i p t good = absurd (not_opened q a m m' e f.0 i p t)

@@ -1,17 +1,15 @@
 -- What hint after hint says of a trial.
-use Rattle.std.proofs.Common.{◌≡◌, ℕ, suc, ◌+◌, ◌<◌, Bool, true, false, not, T, eqb, ◌↔◌, List, [], ◌∷◌, length, get_or, drop, ℤ, Ok, Err, Result, sym, refl, ap, ◌∙◌, subst, inl, inr, add-one, arith, eqb→eq, T_not, length-drop, drop-cons}
+use Rattle.std.proofs.Common.{◌≡◌, ℕ, suc, Bool, true, false, not, T, eqb, ◌↔◌, List, [], ◌∷◌, length, ℤ, Ok, Result, sym, ap, ◌∙◌, subst, inl, inr, arith, eqb→eq, T_not}
 use mathlib.Core.Logic.Iff
-use lib.Dec.{eqb_refl}
 use Rattle.text.specs.Lists.{Each}
 use Rattle.text.specs.Literals.{Clause}
 use Rattle.clauses.specs.Propagation.{Held, Values, value, is_false, Chain, HeldAt, set_true, all_false, Unit'}
 use Rattle.clauses.specs.ClauseBase.{Meaning, Trial, idle, running, answered, is_live, with_trial}
 use Rattle.clauses.specs.declared.fault.BaseFault.{BaseFault}
-use Rattle.clauses.specs.declared.fault.BaseFault.TheVariants.{Malformed, NotLive, NoRoom, InTrial}
 use Rattle.clauses.specs.declared.fault.Hinted.{Hinted}
 use Rattle.clauses.specs.declared.fault.Hinted.TheVariants.{Conflict, Useless, Unit as OneLeft}
 use Rattle.verdict.specs.Session.{DeadHint}
-use Rattle.clauses.specs.Calls.{Hints, Says, NotRunning}
+use Rattle.clauses.specs.Calls.{Hints, Says}
 use Rattle.verdict.specs.Calls.{Follow}
 use Rattle.text.proofs.Members.{each_from_every}
 use Rattle.verdict.proofs.Complete.{held_live, held_once, unit_once, each_middle, not_false_and_unset}
@@ -72,14 +70,6 @@ Along m hs m' r = (m' ≡ with_trial m m'.trial) × AlongOn m.live m.trial hs m'
 abbrev pub Shows : Meaning → List ℕ → Result Bool BaseFault → Meaning → Type 0
 Shows m hs b m' = Follow m.live m.trial hs b × (m' ≡ with_trial m m'.trial)
 
-pub along_start : (m : Meaning) (hs : List ℕ) → Along m hs m hs
-along_start m hs = (refl, on m.trial)
-  where
-    on : (t : Trial) → AlongOn m.live t hs t hs
-    on idle = tt
-    on (running f) = (((λ k. k), λ k. k), ((λ k. k), λ k. k))
-    on answered = tt
-
 same_live : (m m' : Meaning) → m' ≡ with_trial m m'.trial → m'.live ≡ m.live
 same_live m m' e = ap (λ y. y.live) e
 
@@ -104,82 +94,32 @@ module _ (live : List Held) (hs : List ℕ) (h : ℕ) (r : List ℕ) where
   useless_on (running f) (running f') t'' a s =
       ((λ d. stops_dead live f' h s.0 s.1.0 s.1.2 r (a.1.1 d)), λ k. useless_chain live f' h s.0 s.1.0 s.1.1 s.1.2 r (a.0.1 k))
 
-  conflict_on : (t t' t'' : Trial) (b : Bool) → (T b → length r ≡ 0) → (length r ≡ 0 → T b) → AlongOn live t hs t' (h ∷ r) → Says t' live h Conflict t'' → Follow live t hs (Ok b)
-  conflict_on idle t' t'' b e e' a s = tt
-  conflict_on answered t' t'' b e e' a s = tt
-  conflict_on (running f) idle t'' b e e' a s = absurd a
-  conflict_on (running f) answered t'' b e e' a s = absurd a
-  conflict_on (running f) (running f') t'' b e e' a s = at r b e e' a.0 a.1
+  conflict_on : (t t' t'' : Trial) (b : Bool) → b ≡ eqb (length r) 0 → AlongOn live t hs t' (h ∷ r) → Says t' live h Conflict t'' → Follow live t hs (Ok b)
+  conflict_on idle t' t'' b e a s = tt
+  conflict_on answered t' t'' b e a s = tt
+  conflict_on (running f) idle t'' b e a s = absurd a
+  conflict_on (running f) answered t'' b e a s = absurd a
+  conflict_on (running f) (running f') t'' b e a s = at r b e a.0 a.1
     where
       none' : (l : ℤ) → Unit' f' s.0 l → ⊥
       none' l u = false_unit f' s.0 l s.1.1 u
 
-      at : (r : List ℕ) (b : Bool) → (T b → length r ≡ 0) → (length r ≡ 0 → T b) → Chain live f' (h ∷ r) ↔ Chain live f hs → DeadHint live f' (h ∷ r) ↔ DeadHint live f hs → Follow live (running f) hs (Ok b)
-      at [] true e e' x y = x.0 (s.0, (s.1.0, s.1.1))
-      at [] false e e' x y = absurd (e' refl)
-      at (n ∷ r) true e e' x y = let z : suc (length r) ≡ 0 = e tt in absurd (omega arith)
-      at (n ∷ r) false e e' x y = ((λ d. stops_dead live f' h s.0 s.1.0 none' (n ∷ r) (y.1 d)), λ k. stops_chain live f' h s.0 s.1.0 none' n r (x.1 k))
+      at : (r : List ℕ) (b : Bool) → b ≡ eqb (length r) 0 → Chain live f' (h ∷ r) ↔ Chain live f hs → DeadHint live f' (h ∷ r) ↔ DeadHint live f hs → Follow live (running f) hs (Ok b)
+      at [] true e x y = x.0 (s.0, (s.1.0, s.1.1))
+      at [] false e x y = absurd (subst (λ z. T (not z)) e tt)
+      at (n ∷ r) true e x y = let z : suc (length r) ≡ 0 = eqb→eq (suc (length r)) 0 (subst T e tt) in absurd (omega arith)
+      at (n ∷ r) false e x y = ((λ d. stops_dead live f' h s.0 s.1.0 none' (n ∷ r) (y.1 d)), λ k. stops_chain live f' h s.0 s.1.0 none' n r (x.1 k))
 
-  fault_on : (t t' : Trial) (e : BaseFault) → AlongOn live t hs t' (h ∷ r) → (m m' : Meaning) → m.trial ≡ t' → m.live ≡ live → Hints m h (Err e) m' → Follow live t hs (Err e)
-  fault_on idle t' e a m m' x y s = tt
-  fault_on answered t' e a m m' x y s = tt
-  fault_on (running f) idle e a m m' x y s = absurd a
-  fault_on (running f) answered e a m m' x y s = absurd a
-  fault_on (running f) (running f') Malformed a m m' x y s = absurd s
-  fault_on (running f) (running f') NoRoom a m m' x y s = absurd s
-  fault_on (running f) (running f') InTrial a m m' x y s = absurd (subst NotRunning x s.0)
-  fault_on (running f) (running f') NotLive a m m' x y s = a.1.0 (inl (subst (λ z. T (not (is_live z h))) y s.1))
-
-end_on : (live : List Held) (hs : List ℕ) (t t' : Trial) → AlongOn live t hs t' [] → Follow live t hs (Ok false)
-end_on live hs idle t' a = tt
-end_on live hs answered t' a = tt
-end_on live hs (running f) idle a = absurd a
-end_on live hs (running f) answered a = absurd a
-end_on live hs (running f) (running f') a = ((λ d. absurd (a.1.1 d)), λ k. absurd (a.0.1 k))
-
-fault_same : (m m' : Meaning) (h : ℕ) (e : BaseFault) → Hints m h (Err e) m' → m' ≡ m
-fault_same m m' h Malformed s = absurd s
-fault_same m m' h NoRoom s = absurd s
-fault_same m m' h InTrial s = s.1
-fault_same m m' h NotLive s = s.2
-
--- the same over whole meanings, with the place i of the next hint
-module _ (m m' m'' : Meaning) (hs : List ℕ) (i h : ℕ) (below : i < length hs) (is : get_or hs i 0 ≡ h) (along : Along m hs m' (drop i hs)) where
-  split : drop i hs ≡ h ∷ drop (i + 1) hs
-  split = drop-cons hs i 0 below ∙ ap (λ y. y ∷ drop (suc i) hs) is ∙ ap (λ y. h ∷ drop y hs) (sym (add-one i))
-
-  here : AlongOn m.live m.trial hs m'.trial (h ∷ drop (i + 1) hs)
-  here = subst (λ y. AlongOn m.live m.trial hs m'.trial y) split along.1
-
+-- the same over whole meanings
+module _ (m m' m'' : Meaning) (hs : List ℕ) (h : ℕ) (r : List ℕ) (along : Along m hs m' (h ∷ r)) where
   said : (a : Hinted) → Says m'.trial m'.live h a m''.trial → Says m'.trial m.live h a m''.trial
   said a s = subst (λ y. Says m'.trial y h a m''.trial) (same_live m m' along.0) s
 
-  pub along_next : Hints m' h (Ok OneLeft) m'' → Along m hs m'' (drop (i + 1) hs)
-  along_next s = (both m m' m'' along.0 s.1, next_on m.live hs h (drop (i + 1) hs) m.trial m'.trial m''.trial here (said OneLeft s.0))
+  pub along_next : Hints m' h (Ok OneLeft) m'' → Along m hs m'' r
+  along_next s = (both m m' m'' along.0 s.1, next_on m.live hs h r m.trial m'.trial m''.trial along.1 (said OneLeft s.0))
 
   pub along_useless : Hints m' h (Ok Useless) m'' → Shows m hs (Ok false) m''
-  along_useless s = (useless_on m.live hs h (drop (i + 1) hs) m.trial m'.trial m''.trial here (said Useless s.0), both m m' m'' along.0 s.1)
+  along_useless s = (useless_on m.live hs h r m.trial m'.trial m''.trial along.1 (said Useless s.0), both m m' m'' along.0 s.1)
 
-  pub along_conflict : Hints m' h (Ok Conflict) m'' → Shows m hs (Ok (eqb (i + 1) (length hs))) m''
-  along_conflict s = (conflict_on m.live hs h (drop (i + 1) hs) m.trial m'.trial m''.trial (eqb (i + 1) (length hs)) last first here (said Conflict s.0), both m m' m'' along.0 s.1)
-    where
-      last : T (eqb (i + 1) (length hs)) → length (drop (i + 1) hs) ≡ 0
-      last t = omega (arith, eqb→eq (i + 1) (length hs) t, length-drop (i + 1) hs)
-
-      first : length (drop (i + 1) hs) ≡ 0 → T (eqb (i + 1) (length hs))
-      first e =
-          let same : length hs ≡ i + 1 = omega (arith, length-drop (i + 1) hs) in
-          subst (λ y. T (eqb (i + 1) y)) (sym same) (eqb_refl (i + 1))
-
-  pub along_fault : (e : BaseFault) → Hints m' h (Err e) m'' → Shows m hs (Err e) m''
-  along_fault e s = (
-    fault_on m.live hs h (drop (i + 1) hs) m.trial m'.trial e here m' m'' refl (same_live m m' along.0) s,
-    let same : m'' ≡ m' = fault_same m' m'' h e s in subst (λ y. y ≡ with_trial m y.trial) (sym same) along.0,
-  )
-
-pub along_end : (m m' : Meaning) (hs : List ℕ) → Along m hs m' (drop (length hs) hs) → Shows m hs (Ok false) m'
-along_end m m' hs a = (end_on m.live hs m.trial m'.trial (subst (λ y. AlongOn m.live m.trial hs m'.trial y) (drop_all hs) a.1), a.0)
-  where
-    drop_all : (xs : List ℕ) → drop (length xs) xs ≡ []
-    drop_all [] = refl
-    drop_all (x ∷ xs) = drop_all xs
+  pub along_conflict : (b : Bool) → b ≡ eqb (length r) 0 → Hints m' h (Ok Conflict) m'' → Shows m hs (Ok b) m''
+  along_conflict b e s = (conflict_on m.live hs h r m.trial m'.trial m''.trial b e along.1 (said Conflict s.0), both m m' m'' along.0 s.1)

@@ -25,7 +25,7 @@ refuted q a m source k replies end run e A t =
 
 refuted_means : (q : Problem) (a : Answer) → IsPlanOrFail q a → ((A : Chosen) → Each (True A) (opening_clauses q a) → ⊥) → Means q a (verdict_of q a)
 refuted_means q fail p none = λ s h. none s (each_from_every (makes_true s) (plan_clauses q) ((plans_agree.clauses q s).1 h))
-refuted_means q (set s) p none = (p, refl, refl, unbeaten q (removed_count q s) (changed_count q s) (removed_bound q s) (changed_bound q s) none)
+refuted_means q (set s) p none = (p, refl, unbeaten q (removed_count q s) (changed_count q s) (removed_bound q s) (changed_bound q s) none)
 
 pub stays_idle : (m : Meaning) (cs : List Clause) → m.trial ≡ idle → (added_all m cs).trial ≡ idle
 stays_idle m [] e = e

@@ -3,6 +3,7 @@ pub mod Better
 pub mod Changing
 pub mod Complete
 pub mod Concluding
+pub mod Costs
 pub mod Counters
 pub mod Counting
 pub mod Finding
@@ -22,4 +23,3 @@ pub mod Rup
 pub mod VariableRanges
 pub mod Witness
 pub mod Worded
-pub mod Written

@@ -1,63 +1,46 @@
 -- The walk over the names that have an indicator.
-use Rattle.std.proofs.Common.{◌≡◌, ℕ, ◌+◌, ◌<◌, ◌≤◌, Bool, true, false, cond, not, ◌&&◌, ◌||◌, List, [], ◌∷◌, length, get_or, take, drop, sym, refl, ap, ◌∙◌}
-use Rattle.std.specs.Str.{bytes_eq}
-use Rattle.std.proofs.lemmas.List.{drop_more, drop_all, map_more}
-use Rattle.text.specs.Lists.{each, keep}
+use Rattle.std.proofs.Common.{◌≡◌, ℕ, suc, ◌+◌, ◌<◌, Bool, true, false, cond, not, ◌&&◌, List, [], ◌∷◌, length, get_or, take, drop, sym, refl, ap, ◌∙◌}
+use Rattle.std.specs.List.{enumerate_from}
+use Rattle.text.specs.Lists.{each, keep, how_many}
 use Rattle.text.specs.Word.{word_in}
-use Rattle.problem.proofs.Names.{names_alike, seen_pushed, seen_again}
-use Rattle.problem.specs.Cudf.{seen_in}
-use Rattle.problem.specs.Naming.{row_names}
+use Rattle.problem.proofs.Names.{rows_step, is_first, firsts_are}
+use Rattle.problem.specs.Naming.{named, row_names}
 use Rattle.problem.specs.Rows.{no_package}
 use Rattle.problem.specs.declared.rows.PackageRow.{PackageRow}
-use Rattle.verdict.specs.Indicators.{has_version, listed, listed_at, listed_from}
+use Rattle.verdict.specs.Indicators.{listed, listed_at, listed_from}
 use Rattle.verdict.specs.declared.names.Indicator.{Indicator}
-use Rattle.verdict.specs.declared.names.Indicator.TheVariants.{Changed}
 
-and_true : (b : Bool) → (b && true) ≡ b
-and_true true = refl
-and_true false = refl
+module _ (k : Indicator) (text : List ℕ) (ps : List PackageRow) where
+  module _ (i : ℕ) (l : i < length ps) where
+    abbrev row : PackageRow
+    row = get_or ps i no_package
 
-seen_are : (text n : List ℕ) (ps : List PackageRow) → seen_in n (each (λ p. word_in text p.name) ps) ≡ has_version Changed text n ps
-seen_are text n [] = refl
-seen_are text n (p ∷ ps) =
-    ap (λ y. bytes_eq n (word_in text p.name) || y) (seen_are text n ps) ∙ ap (λ y. y || has_version Changed text n ps) (sym (and_true (bytes_eq n (word_in text p.name))))
+    step : (r : Bool) → r ≡ listed_at k text ps i row → listed_from k text ps i ≡ cond r (word_in text row.name ∷ listed_from k text ps (i + 1)) (listed_from k text ps (i + 1))
+    step r e =
+        ap (keep (listed k text ps)) (rows_step text ps i no_package l) ∙ pick (named text (word_in text row.name) (take i ps))
+        ∙ ap (λ y. cond y (word_in text row.name ∷ listed_from k text ps (i + 1)) (listed_from k text ps (i + 1))) (sym e)
+      where
+        rest : List (List ℕ)
+        rest = row_names text (each (λ p. word_in text p.name) (take (i + 1) ps)) (drop (i + 1) ps)
 
-module _ (text : List ℕ) (ps : List PackageRow) (i : ℕ) (l : i < length ps) where
-  abbrev name : List ℕ
-  name = word_in text (get_or ps i no_package).name
+        pick : (b : Bool) → keep (listed k text ps) (cond b rest (word_in text row.name ∷ rest)) ≡
+            cond (not b && listed k text ps (word_in text row.name)) (word_in text row.name ∷ keep (listed k text ps) rest) (keep (listed k text ps) rest)
+        pick true = refl
+        pick false = refl
 
-  abbrev seen : ℕ → List (List ℕ)
-  seen k = each (λ p. word_in text p.name) (take k ps)
+    pub listed_more : true ≡ listed_at k text ps i row → listed_from k text ps i ≡ word_in text row.name ∷ listed_from k text ps (i + 1)
+    listed_more e = step true e
 
-  abbrev rest : ℕ → List (List ℕ)
-  rest k = row_names text (seen k) (drop k ps)
+    pub listed_same : false ≡ listed_at k text ps i row → listed_from k text ps i ≡ listed_from k text ps (i + 1)
+    listed_same e = step false e
 
-  rest_step : (b : Bool) → has_version Changed text name (take i ps) ≡ b → rest i ≡ cond b (rest (i + 1)) (name ∷ rest (i + 1))
-  rest_step b e =
-      ap (row_names text (seen i)) (drop_more ps i no_package l)
-      ∙ ap (λ y. cond y (row_names text (seen i) (drop (i + 1) ps)) (name ∷ row_names text (name ∷ seen i) (drop (i + 1) ps))) (seen_are text name (take i ps) ∙ e) ∙ go b e
+  pub listed_count : length (keep (is_first text (listed k text ps) ps) (enumerate_from 0 ps)) ≡ length (listed_from k text ps 0)
+  listed_count = firsts_are text (listed k text ps) ps ∙ kept (row_names text [] ps)
     where
-      go : (b : Bool) → has_version Changed text name (take i ps) ≡ b → cond b (row_names text (seen i) (drop (i + 1) ps)) (name ∷ row_names text (name ∷ seen i) (drop (i + 1) ps)) ≡ cond b (rest (i + 1)) (name ∷ rest (i + 1))
-      go true h =
-          names_alike text (seen i) (seen (i + 1))
-          (λ m. sym (ap (seen_in m) (map_more (λ p. word_in text p.name) ps i no_package l) ∙ seen_again m name (seen i) (seen_are text name (take i ps) ∙ h))) (drop (i + 1) ps)
-      go false h =
-          ap (λ ns. name ∷ ns) (names_alike text (name ∷ seen i) (seen (i + 1)) (λ m. sym (ap (seen_in m) (map_more (λ p. word_in text p.name) ps i no_package l) ∙ seen_pushed m name (seen i))) (drop (i + 1) ps))
-
-  module _ (k : Indicator) where
-    keep-step : (b c : Bool) → has_version Changed text name (take i ps) ≡ b → listed k text ps name ≡ c →
-        listed_from k text ps i ≡ cond (not b && c) (name ∷ listed_from k text ps (i + 1)) (listed_from k text ps (i + 1))
-    keep-step true c e f = ap (keep (listed k text ps)) (rest_step true e)
-    keep-step false c e f = ap (keep (listed k text ps)) (rest_step false e) ∙ ap (λ y. cond y (name ∷ listed_from k text ps (i + 1)) (listed_from k text ps (i + 1))) f
-
-    step : (r : Bool) → r ≡ listed_at k text ps i → listed_from k text ps i ≡ cond r (name ∷ listed_from k text ps (i + 1)) (listed_from k text ps (i + 1))
-    step r e = keep-step _ _ refl refl ∙ ap (λ y. cond y (name ∷ listed_from k text ps (i + 1)) (listed_from k text ps (i + 1))) (sym e)
-
-pub listed_more : (k : Indicator) (text : List ℕ) (ps : List PackageRow) (i : ℕ) → i < length ps → true ≡ listed_at k text ps i → listed_from k text ps i ≡ word_in text (get_or ps i no_package).name ∷ listed_from k text ps (i + 1)
-listed_more k text ps i l e = step text ps i l k true e
-
-pub listed_same : (k : Indicator) (text : List ℕ) (ps : List PackageRow) (i : ℕ) → i < length ps → false ≡ listed_at k text ps i → listed_from k text ps i ≡ listed_from k text ps (i + 1)
-listed_same k text ps i l e = step text ps i l k false e
-
-pub listed_none : (k : Indicator) (text : List ℕ) (ps : List PackageRow) (i : ℕ) → length ps ≤ i → listed_from k text ps i ≡ []
-listed_none k text ps i m = ap (λ xs. keep (listed k text ps) (row_names text (each (λ p. word_in text p.name) (take i ps)) xs)) (drop_all i ps m)
+      kept : (ns : List (List ℕ)) → how_many (listed k text ps) ns ≡ length (keep (listed k text ps) ns)
+      kept [] = refl
+      kept (n ∷ ns) = ap (λ m. cond (listed k text ps n) (suc m) m) (kept ns) ∙ pick (listed k text ps n)
+        where
+          pick : (b : Bool) → cond b (suc (length (keep (listed k text ps) ns))) (length (keep (listed k text ps) ns)) ≡ length (cond b (n ∷ keep (listed k text ps) ns) (keep (listed k text ps) ns))
+          pick true = refl
+          pick false = refl

@@ -23,7 +23,7 @@ use Rattle.verdict.proofs.Finding.{found_true, found}
 
 module _ (k : Rooms) (p a c : List ℕ) (m m' : Meaning) (q : Problem) (r : read_problem k.packages k.constraints p ≡ Ok q) where
   verdict_means : (x : Answered) → read_answer q.packages k.table a ≡ Ok x → (v : Result Verdict RunFault) → FoundTrue q (answer_in x) v → Means k p a (line_of (of_run v))
-  verdict_means x w (Ok (best n z)) t = (q, x, (r, w, t))
+  verdict_means x w (Ok (best n)) t = (q, x, (r, w, t))
   verdict_means x w (Ok none) t = (q, x, (r, w, t))
   verdict_means x w (Err f) t = tt
 
@@ -32,7 +32,7 @@ module _ (k : Rooms) (p a c : List ℕ) (m m' : Meaning) (q : Problem) (r : read
 
   plan_means : (t : List _) → read_answer q.packages k.table a ≡ Ok (given t) → (j : Result Line VerdictFault) (o : Option ℕ) → first_false (set_of t) (plan_clauses q) ≡ o → (d : List ℕ) → c ≡ d → OnPlan (memory_in k) q (set_of t) d o m j m' → Means k p a (line_of j)
   plan_means t w j (Some n) f d e h = subst (λ y. Means k p a (line_of y)) (sym h.0) tt
-  plan_means t w j None f [] e h = subst (λ y. Means k p a (line_of y)) (sym h.0) (q, given t, (r, w, ((plans_agree.none q (set_of t)).0 f, refl, refl)))
+  plan_means t w j None f [] e h = subst (λ y. Means k p a (line_of y)) (sym h.0) (q, given t, (r, w, ((plans_agree.none q (set_of t)).0 f, refl)))
   plan_means t w j None f (b ∷ bs) e h = session_means (given t) w j (subst (λ y. InSession (memory_in k) q (set (set_of t)) y m j m') (sym e) h)
 
   answer_means : (o : Result Answered AnswerFault) → read_answer q.packages k.table a ≡ o → (j : Result Line VerdictFault) → OnAnswer (memory_in k) q c o m j m' → Means k p a (line_of j)

@@ -1,5 +1,5 @@
 -- The opening by its layout.
-use Rattle.std.proofs.Common.{◌≡◌, ℕ, zero, suc, ◌+◌, ◌-◌, ◌*◌, ◌≤◌, List, [], ◌∷◌, ◌++◌, length, ℤ, sym, refl, ap, ◌∙◌, mul-le-mul, arith}
+use Rattle.std.proofs.Common.{◌≡◌, ℕ, zero, suc, ◌+◌, ◌-◌, ◌*◌, List, [], ◌∷◌, ◌++◌, length, ℤ, sym, refl, ap, ◌∙◌, arith}
 use Rattle.text.specs.Lists.{up_from}
 use Rattle.text.specs.Literals.{Clause, lit, neg}
 use Rattle.problem.specs.Cudf.{Problem, names, installed_names}
@@ -10,13 +10,10 @@ use Rattle.problem.specs.declared.view.Problem.{Problem as View}
 use Rattle.verdict.proofs.Worded.{removed-clauses-are, changed-clauses-are}
 use Rattle.verdict.specs.Opening.{counter, variables, choice, first_removed, first_changed, first_s, first_t, inputs, all_names, removed_clauses, changed_clauses, at_most_r, fewer_r, fewer_c, opening}
 use Rattle.verdict.specs.OpeningCalls.{Places, second_base, counters_of, bounds_of, at_most, fewer}
-use Rattle.verdict.specs.declared.opening_clauses.Layout.{Layout}
-
-pub product_few : (a b : ℕ) → a ≤ 256 → b ≤ 257 → a * b ≤ 65792
-product_few a b e f = mul-le-mul e f
+use Rattle.verdict.specs.declared.layout.Layout.{Layout}
 
 pub choice_is : (q : Problem) (l : Layout) → Places q l → (r c : ℕ) → l.choice ≡ choice q r c
-choice_is q l p r c = omega (arith, p.removed, p.installed, p.names, p.changed, p.choice)
+choice_is q l p r c = omega (arith, p.removed, p.installed, p.names, l.then_changed, l.then_choice)
 
 pub variables_are : (q : Problem) (l : Layout) → Places q l → (r c m a b : ℕ) → m ≡ r + 1 → a ≡ l.installed * m → b ≡ l.names * c → l.choice + a + b ≡ variables q r c
 variables_are q l p r c m a b k e f =
@@ -69,7 +66,7 @@ pub counters_are : (q : Problem) (l : Layout) → Places q l → (r c : ℕ) →
 counters_are q l p r c =
     let e = choice_is q l p r c in
     let f : l.removed ≡ first_removed q r c = p.removed in
-    let g : l.changed ≡ first_changed q r c = omega (arith, p.removed, p.installed, p.changed) in
+    let g : l.changed ≡ first_changed q r c = omega (arith, p.removed, p.installed, l.then_changed) in
     let i = p.installed in
     let n = p.names in
     cc
@@ -91,7 +88,7 @@ module _ (v : View) (l : Layout) (p : Places (problem_of v) l) (x y r c : ℕ) (
 
   pub opened : ((plan_clauses (problem_of v) ++ (removed_clauses (problem_of v) 0 0 l.removed (installed_names (problem_of v)) ++ changed_clauses (problem_of v) 0 0 l.changed (names (problem_of v)))) ++ counters_of l x y) ++ bounds_of l x y ≡ opening (problem_of v) r c
   opened =
-      let g : l.changed ≡ first_changed q r c = omega (arith, p.removed, p.installed, p.changed) in
+      let g : l.changed ≡ first_changed q r c = omega (arith, p.removed, p.installed, l.then_changed) in
       parts_are q r c _ _ _ _
       (ap (λ w. removed_clauses q 0 0 w (installed_names q)) p.removed ∙ sym (removed-clauses-are v v.text.now (packages_in v) refl refl 0 0 (first_removed q r c)) ∙ removed-clauses-are v v.text.now (packages_in v) refl refl r c (first_removed q r c))
       (ap (λ w. changed_clauses q 0 0 w (names q)) g ∙ sym (changed-clauses-are v v.text.now (packages_in v) refl refl 0 0 (first_changed q r c)) ∙ changed-clauses-are v v.text.now (packages_in v) refl refl r c (first_changed q r c))

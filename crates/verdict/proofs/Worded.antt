@@ -12,7 +12,7 @@ use Rattle.problem.specs.Stanzas.{passing}
 use Rattle.problem.specs.declared.rows.PackageRow.{PackageRow}
 use Rattle.problem.specs.declared.rows.ConstraintRow.{ConstraintRow}
 use Rattle.problem.specs.declared.view.Problem.{Problem as View}
-use Rattle.verdict.specs.Indicators.{has_version, listed, listed_from, changed_rows, of_names}
+use Rattle.verdict.specs.Indicators.{has_installed, listed, listed_from, changed_rows, of_names}
 use Rattle.verdict.specs.Opening.{removed_clauses, changed_clauses}
 use Rattle.verdict.specs.declared.names.Indicator.TheVariants.{Removed, Changed}
 
@@ -20,7 +20,7 @@ module _ (text : List ℕ) (cs : List ConstraintRow) (n : List ℕ) where
   abbrev versions : ℕ → List PackageRow → List Numbered
   versions b ps = keep (λ i. bytes_eq n i.stanza.name) (numbered (suc b) (each (package_of text cs) ps))
 
-  installed_are : (b : ℕ) (ps : List PackageRow) → has_version Removed text n ps ≡ some (λ i. i.stanza.installed) (versions b ps)
+  installed_are : (b : ℕ) (ps : List PackageRow) → has_installed text n ps ≡ some (λ i. i.stanza.installed) (versions b ps)
   installed_are b [] = refl
   installed_are b (p ∷ ps) = ap (λ y. (bytes_eq n (word_in text p.name) && p.installed) || y) (installed_are (suc b) ps) ∙ picked (bytes_eq n (word_in text p.name)) (λ i. i.stanza.installed) _ _
     where

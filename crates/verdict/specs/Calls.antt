@@ -1,18 +1,16 @@
 -- What each call of a session answers and leaves, by cases over the answer.
 -- Tells: whether the clauses held show a clause, by hints or by any chain; Follow: what hints say of a trial's values
--- is_empty: whether a clause has no literals; SettleFault, Settles: a clause added, once it was shown
--- Tries: one step tried on a base; LeavesAfter: what memory holds after so many steps asked
-use Rattle.std.specs.Prelude.{◌≡◌, ℕ, zero, suc, Bool, true, false, not, T, List, [], ◌∷◌, drop, ℤ, Ok, Err, Option, Result, ◌≢◌}
+-- Tries: one step tried on a base; Tried: the same, whatever memory holds it; LeavesAfter: what memory holds after so many steps asked
+use Rattle.std.specs.Prelude.{◌≡◌, ℕ, zero, suc, Bool, true, false, not, T, List, drop, ℤ, Ok, Err, Option, Result, ◌≢◌}
 use Rattle.text.specs.Literals.{Clause}
 use Rattle.clauses.specs.Propagation.{Held, Chain}
-use Rattle.clauses.specs.ClauseBase.{Meaning, Trial, idle, running, answered, fits, well_formed, with_added}
+use Rattle.clauses.specs.ClauseBase.{Meaning, Trial, idle, running, answered, well_formed}
 use Rattle.clauses.specs.declared.fault.BaseFault.{BaseFault}
 use Rattle.clauses.specs.declared.fault.BaseFault.TheVariants.{Malformed, NotLive, NoRoom, InTrial}
 use Rattle.certificate.specs.Stream.{Step, add, Placed}
-use Rattle.certificate.specs.Reading.{Memory, Leaves}
+use Rattle.certificate.specs.Reading.{Memory, in_memory, Leaves}
 use Rattle.verdict.specs.Session.{Shown, DeadHint, Dead, Fine, Refused, after, is_empty_addition}
 use Rattle.verdict.specs.declared.reply.StepFault.{StepFault}
-use Rattle.verdict.specs.declared.reply.StepFault.TheVariants.{Form, NotShown, TooMany, Malformed as malformed, NotLive as is_not_live, NoRoom as no_room, InTrial as in_trial}
 
 -- whether the clauses held show a clause, by these hints or by any chain: the base is as it was
 abbrev pub Tells : Meaning → Clause → Option (List ℕ) → Result Bool BaseFault → Meaning → Type 0
@@ -34,29 +32,13 @@ Follow live (running f) hs (Err NoRoom) = ⊥
 Follow live idle hs r = Unit {0}
 Follow live answered hs r = Unit {0}
 
-abbrev pub is_empty : Clause → Bool
-is_empty [] = true
-is_empty (l ∷ ls) = false
-
-abbrev pub SettleFault : Meaning → Clause → StepFault → Type 0
-SettleFault m c in_trial = (m.trial ≢ idle)
-SettleFault m c malformed = (m.trial ≡ idle) × T (not (well_formed m.variables c))
-SettleFault m c no_room = (m.trial ≡ idle) × T (well_formed m.variables c) × T (not (fits m c))
-SettleFault m c is_not_live = ⊥
-SettleFault m c Form = ⊥
-SettleFault m c NotShown = ⊥
-SettleFault m c TooMany = ⊥
-
--- a clause added, once it was shown: whether it is the empty one
-abbrev pub Settles : Meaning → Clause → Bool → Result Bool StepFault → Meaning → Type 0
-Settles m c false r m' = (r ≡ Err NotShown) × (m' ≡ m)
-Settles m c true (Ok b) m' = (m.trial ≡ idle) × T (well_formed m.variables c) × T (fits m c) × (b ≡ is_empty c) × (m' ≡ with_added m c)
-Settles m c true (Err f) m' = SettleFault m c f × (m' ≡ m)
-
 -- one step tried on a base: taken, and whether it was the empty clause; or refused
 abbrev pub Tries : Memory → Meaning → Step → Result Bool StepFault → Meaning → Type 0
 Tries k m s (Ok b) m' = (m.trial ≡ idle) × Fine k m s × (b ≡ is_empty_addition s) × (m' ≡ after m s)
 Tries k m s (Err f) m' = Refused k m s f × (m' ≡ m)
+
+abbrev pub Tried : Meaning → Step → Result Bool StepFault → Meaning → Type 0
+Tried m s r m' = (k : Memory) → T (in_memory k s) → Tries k m s r m'
 
 -- what memory holds after n steps asked
 abbrev pub LeavesAfter : Memory → List Placed → ℕ → List ℤ → List ℕ → List ℤ → List ℕ → Type 0

@@ -1,35 +1,29 @@
 -- The names that have an indicator variable, and the clauses of these variables, by package rows.
--- counts: whether a version counts for an indicator, by whether it was installed
--- has_version: whether a name has a version that counts
--- listed: whether a name has an indicator; listed_at: whether the name of the row at a place has, and that row is its first
+-- has_installed: whether a name has an installed version
+-- listed: whether a name has an indicator; listed_at: whether the name of a row has, and no row before its place has that name
 -- listed_from: the names with an indicator whose first row stands at a place or after it
 -- changed_rows: what makes a changed variable true, for each version of a name; so many rows stand before them
 -- of_name, of_names: the clauses of a name's indicator, and those of names one after the other
-use Rattle.std.specs.Prelude.{ℕ, suc, Bool, true, cond, not, ◌&&◌, List, [], ◌∷◌, ◌++◌, take, drop, slice_index_or}
+use Rattle.std.specs.Prelude.{ℕ, suc, Bool, true, cond, ◌&&◌, List, [], ◌∷◌, ◌++◌, take, drop}
 use Rattle.std.specs.Str.{bytes_eq}
 use Rattle.text.specs.Lists.{each, keep, some}
 use Rattle.text.specs.Literals.{Clause, lit, neg}
 use Rattle.text.specs.Word.{word_in}
-use Rattle.problem.specs.Naming.{row_names}
-use Rattle.problem.specs.Rows.{no_package}
+use Rattle.problem.specs.Naming.{counted, row_names}
 use Rattle.problem.specs.Stanzas.{passing}
 use Rattle.problem.specs.declared.rows.PackageRow.{PackageRow}
 use Rattle.verdict.specs.declared.names.Indicator.{Indicator}
 use Rattle.verdict.specs.declared.names.Indicator.TheVariants.{Removed, Changed}
 
-abbrev pub counts : Indicator → Bool → Bool
-counts Removed installed = installed
-counts Changed installed = true
-
-abbrev pub has_version : Indicator → List ℕ → List ℕ → List PackageRow → Bool
-has_version k text n ps = some (λ p. bytes_eq n (word_in text p.name) && counts k p.installed) ps
+abbrev pub has_installed : List ℕ → List ℕ → List PackageRow → Bool
+has_installed text n ps = some (λ p. bytes_eq n (word_in text p.name) && p.installed) ps
 
 abbrev pub listed : Indicator → List ℕ → List PackageRow → List ℕ → Bool
-listed Removed text ps n = has_version Removed text n ps
+listed Removed text ps n = has_installed text n ps
 listed Changed text ps n = true
 
-abbrev pub listed_at : Indicator → List ℕ → List PackageRow → ℕ → Bool
-listed_at k text ps i = not (has_version Changed text (word_in text (slice_index_or ps i no_package).name) (take i ps)) && listed k text ps (word_in text (slice_index_or ps i no_package).name)
+abbrev pub listed_at : Indicator → List ℕ → List PackageRow → ℕ → PackageRow → Bool
+listed_at k text ps i p = counted text (listed k text ps) ps i p
 
 abbrev pub listed_from : Indicator → List ℕ → List PackageRow → ℕ → List (List ℕ)
 listed_from k text ps i = keep (listed k text ps) (row_names text (each (λ p. word_in text p.name) (take i ps)) (drop i ps))

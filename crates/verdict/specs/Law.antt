@@ -1,31 +1,33 @@
 -- What a session promises over its whole run, for every base and every source by their meaning.
--- Unbeaten: no plan beats a pair of counts; verdict_of: the verdict on an answer; Means: what it says
+-- Unbeaten: no plan beats some counts; verdict_of: the verdict on an answer; Means: what it says
 -- Good: a certificate all of whose steps are good, up to its first addition of the empty clause; up_to_empty: how many these are
 -- Law: a verdict is true, and a good certificate gets it
 use Rattle.std.specs.Prelude.{◌≡◌, ℕ, suc, ◌<◌, ◌≤◌, cond, T, ◌⊎◌, List, [], ◌∷◌, length}
 use Rattle.problem.specs.Cudf.{Problem, Chosen, PlanOverSets, removed_count, changed_count}
 use Rattle.clauses.specs.ClauseBase.{Meaning}
 use Rattle.certificate.specs.Stream.{Placed, Stream}
+use Rattle.verdict.specs.Counted.{counts_of}
+use Rattle.verdict.specs.declared.counts.Counts.{Counts}
 use Rattle.verdict.specs.declared.reply.Reply.{Reply}
 use Rattle.verdict.specs.declared.outcome.Verdict.{Verdict}
 use Rattle.verdict.specs.declared.outcome.Verdict.TheVariants.{Optimal, Impossible}
 use Rattle.certificate.specs.Reading.{Memory}
 use Rattle.verdict.specs.Session.{Desk, Run, Answer, fail, set, Fine, after, is_empty_addition, opens, IsPlanOrFail, desk_on}
 
--- no plan beats the pair (r, c)
-abbrev pub Unbeaten : Problem → ℕ → ℕ → Type 0
-Unbeaten q r c = (other : Chosen) → PlanOverSets q other → (r < removed_count q other) ⊎ ((removed_count q other ≡ r) × (c ≤ changed_count q other))
+-- no plan beats these counts
+abbrev pub Unbeaten : Problem → Counts → Type 0
+Unbeaten q n = (other : Chosen) → PlanOverSets q other → (n.removed < removed_count q other) ⊎ ((removed_count q other ≡ n.removed) × (n.changed ≤ changed_count q other))
 
 -- the verdict that a refuted session on an answer closes with
 abbrev pub verdict_of : Problem → Answer → Verdict
 verdict_of q fail = Impossible
-verdict_of q (set s) = Optimal (removed_count q s) (changed_count q s)
+verdict_of q (set s) = Optimal (counts_of q s)
 
 -- what a verdict on an answer says: the set is a plan with these counts, and no plan beats it; no plan exists
 abbrev pub Means : Problem → Answer → Verdict → Type 0
-Means q (set s) (Optimal r c) = PlanOverSets q s × (removed_count q s ≡ r) × (changed_count q s ≡ c) × Unbeaten q r c
+Means q (set s) (Optimal n) = PlanOverSets q s × (n ≡ counts_of q s) × Unbeaten q n
 Means q (set s) Impossible = ⊥
-Means q fail (Optimal r c) = ⊥
+Means q fail (Optimal n) = ⊥
 Means q fail Impossible = (s : Chosen) → PlanOverSets q s → ⊥
 
 -- A certificate, up to its first addition of the empty clause, every step of which is good: reckoned from

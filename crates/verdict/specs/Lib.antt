@@ -1,8 +1,9 @@
 pub mod Calls
+pub mod Counted
 pub mod Finding
 pub mod Indicators
-pub mod Laying
 pub mod Law
+pub mod Laying
 pub mod Lines
 pub mod Numbers
 pub mod Onward

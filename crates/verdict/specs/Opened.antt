@@ -2,13 +2,14 @@
 -- desk_of: a session with what its base and its source mean; answer_of: an answer and its table in words; plan_fault: the first plan clause that an answer's set makes false
 -- claim_of: what a session on an answer is opened on; verdict_for: the verdict on it
 -- Claims: what a session on an answer opens on, unless it is a set that is no plan
--- Opens, OnlyRefused: an opening, and what it is refused for; Closes: a closing call
+-- Opens, OnlyRefused: an opening, and what it is refused for; Closes: a closing call; closing: what it comes to
 -- Concludes, RunLeaves: a whole run, and what it leaves in memory
 -- TrueVerdict: a verdict is true; Complete: a good certificate has its verdict
-use Rattle.std.specs.Prelude.{◌≡◌, ℕ, suc, ◌≤◌, false, not, T, List, ℤ, Some, None, Ok, Err, Option, Result, ◌≢◌}
+use Rattle.std.specs.Prelude.{◌≡◌, ℕ, suc, ◌≤◌, false, cond, not, T, List, ℤ, Some, None, Ok, Err, Option, Result, ◌≢◌}
+use Rattle.verdict.specs.Counted.{counts_of}
 use Rattle.verdict.specs.declared.session.Open.{Open}
 use Rattle.verdict.specs.declared.session.Claim.{Claim}
-use Rattle.verdict.specs.declared.session.Claim.TheVariants.{Fail, Plan as Counts}
+use Rattle.verdict.specs.declared.session.Claim.TheVariants.{Fail, Plan}
 use Rattle.verdict.specs.declared.session.Refuted.{Refuted}
 use Rattle.verdict.specs.declared.session.StillOpen.{StillOpen}
 use Rattle.verdict.specs.declared.outcome.OpenFault.{OpenFault}
@@ -18,7 +19,7 @@ use Rattle.verdict.specs.declared.outcome.SessionFault.TheVariants.{Opening, Unc
 use Rattle.verdict.specs.declared.reply.Reply.{Reply}
 use Rattle.verdict.specs.declared.outcome.Verdict.{Verdict}
 use Rattle.verdict.specs.declared.outcome.Verdict.TheVariants.{Optimal, Impossible}
-use Rattle.problem.specs.Cudf.{Problem, removed_count, changed_count}
+use Rattle.problem.specs.Cudf.{Problem}
 use Rattle.problem.specs.PlanClauses.{plan_clauses, first_false}
 use Rattle.problem.specs.Sets.{set_of}
 use Rattle.problem.specs.declared.answer.Answer.{Answer as Given}
@@ -46,11 +47,11 @@ plan_fault q (set s) = first_false s (plan_clauses q)
 
 abbrev pub claim_of : Problem → Answer → Claim
 claim_of q fail = Fail
-claim_of q (set s) = Counts (removed_count q s) (changed_count q s)
+claim_of q (set s) = Plan (counts_of q s)
 
 abbrev pub verdict_for : Claim → Verdict
 verdict_for Fail = Impossible
-verdict_for (Counts r c) = Optimal r c
+verdict_for (Plan n) = Optimal n
 
 -- what a session on an answer opens on, unless the answer is a set that is no plan
 abbrev pub Claims : Problem → Answer → Result Claim Unplanned → Type 0
@@ -73,6 +74,10 @@ OnlyRefused m q a (Err f) = m.trial ≡ idle → IsPlanOrFail q a → T (not (op
 abbrev pub Closes : Open → Result Refuted StillOpen → Type 0
 Closes o (Ok f) = T o.emptied × (f.claim ≡ o.claim)
 Closes o (Err e) = T (not o.emptied) × (e.session ≡ o) × (e.place ≡ suc o.last)
+
+-- what a session comes to that is closed
+abbrev pub closing : Open → Result Verdict SessionFault
+closing o = cond o.emptied (Ok (verdict_for o.claim)) (Err (Unclosed (suc o.last)))
 
 -- A whole run: opened, asked, closed.
 abbrev pub Concludes : Problem → Answer → Memory → Meaning → Stream → List Reply → Result Verdict SessionFault → List Reply → Meaning → Stream → Type 0

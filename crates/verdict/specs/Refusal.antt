@@ -8,14 +8,15 @@ use Rattle.verdict.specs.declared.line.File.TheVariants.{Problem as InProblem, A
 use Rattle.verdict.specs.declared.line.Refusal.{Refusal}
 use Rattle.verdict.specs.declared.outcome.OpenFault.TheVariants.{NotPlan, NoRoom, InTrial}
 use Rattle.verdict.specs.declared.outcome.RunFault.{RunFault}
-use Rattle.verdict.specs.declared.outcome.RunFault.TheVariants.{Opening, Step, Unclosed}
+use Rattle.verdict.specs.declared.outcome.RunFault.TheVariants.{Session as InSession, Step}
+use Rattle.verdict.specs.declared.outcome.SessionFault.TheVariants.{Opening, Unclosed}
 
 abbrev pub refused_run : RunFault → Refusal
-refused_run (Opening (NotPlan n)) = record { file = InAnswer; place = n; number = 13 }
-refused_run (Opening NoRoom) = record { file = InCertificate; place = 0; number = open_number NoRoom }
-refused_run (Opening InTrial) = record { file = InCertificate; place = 0; number = open_number InTrial }
+refused_run (InSession (Opening (NotPlan n))) = record { file = InAnswer; place = n; number = 13 }
+refused_run (InSession (Opening NoRoom)) = record { file = InCertificate; place = 0; number = open_number NoRoom }
+refused_run (InSession (Opening InTrial)) = record { file = InCertificate; place = 0; number = open_number InTrial }
+refused_run (InSession (Unclosed p)) = record { file = InCertificate; place = p; number = 25 }
 refused_run (Step f p) = record { file = InCertificate; place = p; number = step_number f }
-refused_run (Unclosed p) = record { file = InCertificate; place = p; number = 25 }
 
 abbrev pub refused : VerdictFault → Refusal
 refused (TooLong file) = record { file = file; place = 0; number = 34 }

@@ -14,7 +14,7 @@ use Rattle.certificate.specs.Reading.{Memory}
 use Rattle.certificate.specs.Stream.{Stream}
 use Rattle.clauses.specs.ClauseBase.{Meaning, idle}
 use Rattle.problem.specs.Answers.{Answered, failed, given, read_answer}
-use Rattle.problem.specs.Cudf.{Problem, Chosen, PlanOverSets, removed_count, changed_count}
+use Rattle.problem.specs.Cudf.{Problem, Chosen, PlanOverSets}
 use Rattle.problem.specs.Drafts.{then}
 use Rattle.problem.specs.PlanClauses.{plan_clauses, first_false}
 use Rattle.problem.specs.Reading.{read_problem}
@@ -24,13 +24,14 @@ use Rattle.problem.specs.declared.fault.ProblemFault.{ProblemFault}
 use Rattle.problem.specs.declared.rows.ConstraintRow.{ConstraintRow}
 use Rattle.problem.specs.declared.rows.PackageRow.{PackageRow}
 use Rattle.problem.specs.declared.standing.Standing.{Standing}
+use Rattle.verdict.specs.Counted.{counts_of}
 use Rattle.verdict.specs.Finding.{Finds}
 use Rattle.verdict.specs.Law.{Good, verdict_of, Means as Says}
 use Rattle.verdict.specs.Refusal.{refused}
 use Rattle.verdict.specs.Session.{Answer, fail, set, IsPlanOrFail, opens, opening_fits}
 use Rattle.verdict.specs.declared.fault.VerdictFault.{VerdictFault}
 use Rattle.verdict.specs.declared.fault.VerdictFault.TheVariants.{TooLong, Problem as BadProblem, Answer as BadAnswer, NoPlan, Session}
-use Rattle.verdict.specs.declared.line.Counts.{Counts}
+use Rattle.verdict.specs.declared.counts.Counts.{Counts}
 use Rattle.verdict.specs.declared.line.File.{File}
 use Rattle.verdict.specs.declared.line.File.TheVariants.{Problem as InProblem, Answer as InAnswer, Certificate as InCertificate}
 use Rattle.verdict.specs.declared.line.Line.{Line}
@@ -67,7 +68,7 @@ answer_in failed = fail
 answer_in (given t) = set (set_of t)
 
 abbrev pub line_for : Verdict → Line
-line_for (best r c) = Optimal (record { removed = r; changed = c })
+line_for (best n) = Optimal n
 line_for none = Impossible
 
 abbrev pub of_run : Result Verdict RunFault → Result Line VerdictFault
@@ -80,7 +81,7 @@ InSession k q a c m r m' = (v : Result Verdict RunFault) × (left : Stream) × (
 
 abbrev pub OnPlan : Memory → Problem → Chosen → List ℕ → Option ℕ → Meaning → Result Line VerdictFault → Meaning → Type 0
 OnPlan k q s c (Some n) m r m' = (r ≡ Err (NoPlan (record { clause = n }))) × (m' ≡ m)
-OnPlan k q s [] None m r m' = (r ≡ Ok (Plan (record { removed = removed_count q s; changed = changed_count q s }))) × (m' ≡ m)
+OnPlan k q s [] None m r m' = (r ≡ Ok (Plan (counts_of q s))) × (m' ≡ m)
 OnPlan k q s (b ∷ bs) None m r m' = InSession k q (set s) (b ∷ bs) m r m'
 
 abbrev pub OnAnswer : Memory → Problem → List ℕ → Result Answered AnswerFault → Meaning → Result Line VerdictFault → Meaning → Type 0
@@ -113,11 +114,11 @@ ReadAs k p a P = (q : Problem) × (x : Answered) × ((read_problem k.packages k.
 -- a set that is a plan with these counts
 abbrev pub PlanWith : Counts → Problem → Answer → Type 0
 PlanWith n q fail = ⊥
-PlanWith n q (set s) = PlanOverSets q s × (n.removed ≡ removed_count q s) × (n.changed ≡ changed_count q s)
+PlanWith n q (set s) = PlanOverSets q s × (n ≡ counts_of q s)
 
 abbrev pub Means : Rooms → List ℕ → List ℕ → Line → Type 0
 Means k p a (Plan n) = ReadAs k p a (PlanWith n)
-Means k p a (Optimal n) = ReadAs k p a (λ q x. Says q x (best n.removed n.changed))
+Means k p a (Optimal n) = ReadAs k p a (λ q x. Says q x (best n))
 Means k p a Impossible = ReadAs k p a (λ q x. Says q x none)
 Means k p a (Refused r) = Unit {0}
 

@@ -31,4 +31,4 @@ pub record WorkedSession : Type 0 where
   pub clauses : length (opening_clauses cans new_shift) ≡ 23
   pub fits : T (opening_fits blank cans new_shift)
   pub good : Good memory opened (hinted_step ∷ [])
-  pub means : Means cans new_shift (Optimal 0 2)
+  pub means : Means cans new_shift (Optimal (record { removed = 0; changed = 2 }))

@@ -4,21 +4,20 @@ ghost use Rattle.certificate.specs.Reading.{memory_of};
 ghost use Rattle.problem.specs.Answers.{read_answer};
 ghost use Rattle.problem.specs.Meaning.{problem_of};
 ghost use Rattle.problem.specs.PlanClauses.{plan_clauses, first_false};
-ghost use Rattle.problem.specs.Reading.{read_problem};
 ghost use Rattle.problem.specs.Rows.{no_package, no_constraint};
 ghost use Rattle.problem.specs.Sets.{set_of};
 ghost use Rattle.problem.specs.declared.standing.Standing.TheVariants.{Unnamed};
 ghost use Rattle.verdict.specs.Opened.{answer_of};
-ghost use Rattle.verdict.specs.Verdicts.{rooms_of, length_ok, lengths_ok, line_for, InSession, OnPlan, OnAnswer, OnProblem, Judged, line_of, Comes, Means, Completes};
+ghost use Rattle.verdict.specs.Verdicts.{rooms_of, length_ok, lengths_ok, line_for, InSession, OnPlan, OnAnswer, Judged, line_of, Comes, Means, Completes};
 
+use crate::counts::Counts;
 use crate::fault::VerdictFault;
-use crate::line::{Counts, File, Line};
+use crate::line::{File, Line};
 use crate::outcome::Verdict;
 use crate::whole::conclude;
 use certificate::form::open;
 use clauses::base::ClauseBase;
 use problem::answer::{Answer, read_answer};
-use problem::counts::{changed_names, removed_names};
 use problem::plan_check::check_plan;
 use problem::read::read_problem;
 use problem::rows::{ConstraintRow, NO_CONSTRAINT, NO_PACKAGE, PackageRow};
@@ -52,7 +51,7 @@ fn line_for(verdict: Verdict) -> Line
     ensures { result ≡ line_for verdict }
 {
     match verdict {
-        Verdict::Optimal(removed, changed) => Line::Optimal(Counts { removed, changed }),
+        Verdict::Optimal(counts) => Line::Optimal(counts),
         Verdict::Impossible => Line::Impossible,
     }
 }
@@ -87,10 +86,7 @@ fn judge_set<B: ClauseBase>(
 {
     check_plan(problem, set)?;
     if certificate.is_empty() {
-        return Ok(Line::Plan(Counts {
-            removed: removed_names(problem, set),
-            changed: changed_names(problem, set),
-        }));
+        return Ok(Line::Plan(Counts::of(problem, set)));
     }
     judge_session(
         problem,
@@ -106,16 +102,16 @@ fn judge_set<B: ClauseBase>(
 /// What an answer to a problem comes to.
 fn judge_answer<B: ClauseBase>(
     problem: &Problem<'_, '_, '_>,
-    answer: &[u8],
+    answer_text: &[u8],
     certificate: &[u8],
     table: &mut [Standing],
     base: &mut B,
     literals: &mut [i32],
     hints: &mut [u32],
 ) -> Result<Line, VerdictFault>
-    ensures { OnAnswer (memory_of literals.old hints.old) (problem_of problem.now) certificate.now (read_answer (problem_of problem.now).packages (length table.old) answer.now) (B.meaning base.old) result (B.meaning base.new) }
+    ensures { OnAnswer (memory_of literals.old hints.old) (problem_of problem.now) certificate.now (read_answer (problem_of problem.now).packages (length table.old) answer_text.now) (B.meaning base.old) result (B.meaning base.new) }
 {
-    match read_answer(answer, problem, table)? {
+    match read_answer(answer_text, problem, table)? {
         Answer::Fail => judge_session(
             problem,
             Answer::Fail,
@@ -129,10 +125,11 @@ fn judge_answer<B: ClauseBase>(
     }
 }
 
-/// What files that are not too long come to.
+/// What the files come to.
+// The rows are lent apart: a `&mut` slice says by itself that the memory stays, of the same length.
 fn judge<B: ClauseBase>(
     problem_text: &[u8],
-    answer: &[u8],
+    answer_text: &[u8],
     certificate: &[u8],
     packages: &mut [PackageRow],
     constraints: &mut [ConstraintRow],
@@ -141,34 +138,15 @@ fn judge<B: ClauseBase>(
     literals: &mut [i32],
     hints: &mut [u32],
 ) -> Result<Line, VerdictFault>
-    ensures { OnProblem (rooms_of packages.old constraints.old table.old literals.old hints.old) answer.now certificate.now (read_problem (length packages.old) (length constraints.old) problem_text.now) (B.meaning base.old) result (B.meaning base.new) }
+    ensures { Judged (rooms_of packages.old constraints.old table.old literals.old hints.old) problem_text.now answer_text.now certificate.now (B.meaning base.old) result (B.meaning base.new) }
 {
+    check_lengths(problem_text, answer_text, certificate)?;
     let mut problem = Problem::none();
     read_problem(problem_text, packages, constraints, &mut problem)?;
-    judge_answer(&problem, answer, certificate, table, base, literals, hints)
-}
-
-/// What all files come to.
-fn judge_files<B: ClauseBase>(
-    problem: &[u8],
-    answer: &[u8],
-    certificate: &[u8],
-    packages: &mut [PackageRow],
-    constraints: &mut [ConstraintRow],
-    table: &mut [Standing],
-    base: &mut B,
-    literals: &mut [i32],
-    hints: &mut [u32],
-) -> Result<Line, VerdictFault>
-    ensures { Judged (rooms_of packages.old constraints.old table.old literals.old hints.old) problem.now answer.now certificate.now (B.meaning base.old) result (B.meaning base.new) }
-{
-    check_lengths(problem, answer, certificate)?;
-    judge(
-        problem,
-        answer,
+    judge_answer(
+        &problem,
+        answer_text,
         certificate,
-        packages,
-        constraints,
         table,
         base,
         literals,
@@ -182,7 +160,7 @@ fn line_of(judgement: Result<Line, VerdictFault>) -> Line
 {
     match judgement {
         Ok(line) => line,
-        Err(fault) => Line::Refused(fault.refusal()),
+        Err(fault) => Line::Refused(fault.into()),
     }
 }
 
@@ -208,7 +186,7 @@ pub fn check<B: ClauseBase>(
     ensures literals { literals.new ≡ replicate (length literals.old) (pos 0) }
     ensures hints { hints.new ≡ replicate (length hints.old) 0 }
 {
-    let judgement = judge_files(
+    let judgement = judge(
         problem,
         answer,
         certificate,

@@ -4,7 +4,7 @@ ghost use Rattle.verdict.specs.Refusal.{refused, refused_run};
 ghost use Rattle.verdict.specs.declared.fault.VerdictFault.TheVariants.{Problem, Answer, NoPlan, Session};
 
 use crate::line::{File, Refusal};
-use crate::outcome::{OpenFault, RunFault};
+use crate::outcome::{OpenFault, RunFault, SessionFault};
 use problem::fault::{AnswerFault, ProblemFault};
 use problem::plan_check::NotPlan;
 
@@ -21,6 +21,7 @@ pub enum VerdictFault {
     Session(RunFault),
 }
 
+// Written out, as the clauses of the calls name what `?` makes of a fault.
 impl From<ProblemFault> for VerdictFault {
     ghost from_gives = { λ f r. r ≡ Problem f };
 
@@ -53,12 +54,12 @@ impl From<RunFault> for VerdictFault {
     }
 }
 
-impl VerdictFault {
+impl From<VerdictFault> for Refusal {
+    ghost from_gives = { λ f r. r ≡ refused f };
+
     /// The file, the place and the number of a fault.
-    pub fn refusal(self) -> Refusal
-        ensures { result ≡ refused self }
-    {
-        match self {
+    fn from(fault: VerdictFault) -> Refusal {
+        match fault {
             VerdictFault::TooLong(file) => Refusal {
                 file,
                 place: 0,
@@ -89,25 +90,25 @@ fn refusal_of_run(fault: RunFault) -> Refusal
     ensures { result ≡ refused_run fault }
 {
     match fault {
-        RunFault::Opening(OpenFault::NotPlan(clause)) => Refusal {
+        RunFault::Session(SessionFault::Opening(OpenFault::NotPlan(clause))) => Refusal {
             file: File::Answer,
             place: clause as usize,
             number: 13,
         },
-        RunFault::Opening(fault) => Refusal {
+        RunFault::Session(SessionFault::Opening(fault)) => Refusal {
             file: File::Certificate,
             place: 0,
             number: fault.number(),
+        },
+        RunFault::Session(SessionFault::Unclosed(place)) => Refusal {
+            file: File::Certificate,
+            place: place as usize,
+            number: 25,
         },
         RunFault::Step(fault, place) => Refusal {
             file: File::Certificate,
             place: place as usize,
             number: fault.number(),
-        },
-        RunFault::Unclosed(place) => Refusal {
-            file: File::Certificate,
-            place: place as usize,
-            number: 25,
         },
     }
 }

@@ -11,141 +11,127 @@ ghost use Rattle.verdict.specs.Indicators.{changed_rows, of_name, of_names, list
 ghost use Rattle.verdict.specs.declared.names.Indicator.TheVariants.{Removed, Changed};
 
 use crate::names::{Indicator, is_listed};
-use crate::variable::{no, yes};
-use problem::rows::PackageRow;
-use problem::sink::ClauseSink;
+use problem::sink::{ClauseSink, Stopped};
+use problem::stanzas::Stanzas;
+use problem::variable::Variable;
+use problem::view::PACKAGES_MOST;
 use text::rows::Rows;
-use text::same::same_bytes;
 use text::word::bytes_of;
 
 /// That a name is changed if its version at a place does not stand as it did.
-fn feed_change<S: ClauseSink>(installed: bool, place: usize, variable: u32, sink: &mut S) -> bool
-    requires place { place < 256 }
-    requires small { variable ≤ 1000000 }
-    ensures { Fed S.goes S.stops (((if installed then lit (suc place) else neg (suc place)) ∷ lit variable ∷ []) ∷ []) result sink.old sink.new }
+fn feed_change<S: ClauseSink>(
+    installed: bool,
+    place: usize,
+    changed: Variable,
+    sink: &mut S,
+) -> Result<(), Stopped>
+    requires { place < 256 }
+    ensures { Fed S.goes S.stops (((if installed then lit (suc place) else neg (suc place)) ∷ lit changed.number ∷ []) ∷ []) result sink.old sink.new }
 {
-    let number = place as u32 + 1;
+    let version = Variable {
+        number: place as u32 + 1,
+    };
     if installed {
-        sink.take(&[yes(number), yes(variable)])
+        sink.take(&[version.yes(), changed.yes()])
     } else {
-        sink.take(&[no(number), yes(variable)])
+        sink.take(&[version.no(), changed.yes()])
     }
 }
 
 /// The same for each version of a name.
 fn feed_changed<S: ClauseSink>(
-    text: &[u8],
-    packages: &[PackageRow],
+    stanzas: &Stanzas<'_>,
     name: &[u8],
-    variable: u32,
+    changed: Variable,
     sink: &mut S,
-) -> bool
-    requires few { length packages.now ≤ 256 }
-    requires small { variable ≤ 1000000 }
-    ensures { Fed S.goes S.stops (changed_rows text.now name.now variable 0 packages.now) result sink.old sink.new }
+) -> Result<(), Stopped>
+    ensures { Fed S.goes S.stops (changed_rows stanzas.now.text.now name.now changed.number 0 stanzas.now.rows.now) result sink.old sink.new }
 {
-    for (i, row) in packages.iter().enumerate() {
-        if same_bytes(name, bytes_of(text, row.name))
-            && !feed_change(row.installed, i, variable, sink)
-        {
-            return false;
+    for (i, row) in stanzas.rows.iter().enumerate() {
+        if row.is_named(stanzas.text, name) {
+            feed_change(row.installed, i, changed, sink)?;
         }
     }
-    true
+    Ok(())
 }
 
 /// Puts a variable at the end of a clause.
-fn write_variable(clause: &mut Rows<'_, i32>, variable: u32)
-    requires small { variable ≤ 1000000 }
-    requires fits { length (items clause.old) < room clause.old }
-    ensures items { items clause.new ≡ items clause.old ++ lit variable ∷ [] }
+fn write_variable(clause: &mut Rows<'_, i32>, variable: Variable)
+    requires { length (items clause.old) < room clause.old }
+    ensures items { items clause.new ≡ items clause.old ++ lit variable.number ∷ [] }
     ensures room { room clause.new ≡ room clause.old }
 {
-    let _ = clause.push(yes(variable));
+    let _ = clause.push(variable.yes());
 }
 
 /// Puts the versions of a name at the end of a clause.
-fn write_versions(text: &[u8], packages: &[PackageRow], name: &[u8], clause: &mut Rows<'_, i32>)
-    requires few { length packages.now ≤ 256 }
-    requires fits { length (items clause.old) + length packages.now ≤ room clause.old }
-    ensures items { items clause.new ≡ items clause.old ++ each lit (passing (λ p. bytes_eq name.now (word_in text.now p.name)) 0 packages.now) }
-    ensures len { length (items clause.new) ≤ length (items clause.old) + length packages.now }
+fn write_versions(stanzas: &Stanzas<'_>, name: &[u8], clause: &mut Rows<'_, i32>)
+    requires { length (items clause.old) + length stanzas.now.rows.now ≤ room clause.old }
+    ensures items { items clause.new ≡ items clause.old ++ each lit (passing (λ p. bytes_eq name.now (word_in stanzas.now.text.now p.name)) 0 stanzas.now.rows.now) }
+    ensures len { length (items clause.new) ≤ length (items clause.old) + length stanzas.now.rows.now }
     ensures room { room clause.new ≡ room clause.old }
 {
-    for (i, row) in packages.iter().enumerate() {
-        if same_bytes(name, bytes_of(text, row.name)) {
-            write_variable(clause, i as u32 + 1);
+    for (i, row) in stanzas.rows.iter().enumerate() {
+        if row.is_named(stanzas.text, name) {
+            let version = Variable {
+                number: i as u32 + 1,
+            };
+            write_variable(clause, version);
         }
     }
 }
 
 /// That a name is removed if none of its versions is left.
 fn feed_removed<S: ClauseSink>(
-    text: &[u8],
-    packages: &[PackageRow],
+    stanzas: &Stanzas<'_>,
     name: &[u8],
-    variable: u32,
-    clause: &mut Rows<'_, i32>,
+    removed: Variable,
     sink: &mut S,
-) -> bool
-    requires few { length packages.now ≤ 256 }
-    requires small { variable ≤ 1000000 }
-    requires fits { 257 ≤ room clause.old }
-    ensures fed { Fed S.goes S.stops (of_name Removed text.now packages.now variable name.now) result sink.old sink.new }
-    ensures room { room clause.new ≡ room clause.old }
+) -> Result<(), Stopped>
+    ensures { Fed S.goes S.stops (of_name Removed stanzas.now.text.now stanzas.now.rows.now removed.number name.now) result sink.old sink.new }
 {
-    clause.clear();
-    write_versions(text, packages, name, clause);
-    write_variable(clause, variable);
+    let mut memory = [0; PACKAGES_MOST + 1];
+    let mut clause = Rows::new(&mut memory, 0);
+    write_versions(stanzas, name, &mut clause);
+    write_variable(&mut clause, removed);
     sink.take(clause.as_slice())
 }
 
 /// The clauses of a name's indicator.
 fn feed_indicator<S: ClauseSink>(
-    text: &[u8],
-    packages: &[PackageRow],
+    stanzas: &Stanzas<'_>,
     indicator: Indicator,
     name: &[u8],
-    variable: u32,
-    clause: &mut Rows<'_, i32>,
+    variable: Variable,
     sink: &mut S,
-) -> bool
-    requires few { length packages.now ≤ 256 }
-    requires small { variable ≤ 1000000 }
-    requires fits { 257 ≤ room clause.old }
-    ensures fed { Fed S.goes S.stops (of_name indicator text.now packages.now variable name.now) result sink.old sink.new }
-    ensures room { room clause.new ≡ room clause.old }
+) -> Result<(), Stopped>
+    ensures { Fed S.goes S.stops (of_name indicator stanzas.now.text.now stanzas.now.rows.now variable.number name.now) result sink.old sink.new }
 {
     match indicator {
-        Indicator::Removed => feed_removed(text, packages, name, variable, clause, sink),
-        Indicator::Changed => feed_changed(text, packages, name, variable, sink),
+        Indicator::Removed => feed_removed(stanzas, name, variable, sink),
+        Indicator::Changed => feed_changed(stanzas, name, variable, sink),
     }
 }
 
 /// The clauses of an indicator for each name that has it, the variables from `first` on.
 pub(crate) fn feed_indicators<S: ClauseSink>(
-    text: &[u8],
-    packages: &[PackageRow],
+    stanzas: &Stanzas<'_>,
     indicator: Indicator,
     first: u32,
-    clause: &mut Rows<'_, i32>,
     sink: &mut S,
-) -> bool
-    requires few { length packages.now ≤ 256 }
+) -> Result<(), Stopped>
+    requires least { 1 ≤ first }
     requires small { first ≤ 10000 }
-    requires fits { 257 ≤ room clause.old }
-    ensures fed { Fed S.goes S.stops (of_names indicator text.now packages.now first (listed_from indicator text.now packages.now 0)) result sink.old sink.new }
-    ensures room { room clause.new ≡ room clause.old }
+    ensures { Fed S.goes S.stops (of_names indicator stanzas.now.text.now stanzas.now.rows.now first (listed_from indicator stanzas.now.text.now stanzas.now.rows.now 0)) result sink.old sink.new }
 {
-    let mut variable = first;
-    for place in 0..packages.len() {
-        if is_listed(text, packages, indicator, place) {
-            let name = bytes_of(text, packages[place].name);
-            if !feed_indicator(text, packages, indicator, name, variable, clause, sink) {
-                return false;
-            }
-            variable += 1;
+    // Tried: a loop over the filtered rows, which the check refuses in a function with a type parameter.
+    let mut number = first;
+    for (place, row) in stanzas.rows.iter().enumerate() {
+        if is_listed(stanzas, indicator, place, row) {
+            let name = bytes_of(stanzas.text, row.name);
+            feed_indicator(stanzas, indicator, name, Variable { number }, sink)?;
+            number += 1;
         }
     }
-    true
+    Ok(())
 }

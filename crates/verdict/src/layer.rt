@@ -3,7 +3,7 @@ ghost use Rattle.std.specs.Prelude.{◌≡◌};
 ghost use Rattle.verdict.specs.Laying.{Took, Turned};
 
 use clauses::base::ClauseBase;
-use problem::sink::ClauseSink;
+use problem::sink::{ClauseSink, Stopped};
 
 /// A base that clauses are added to, as long as it takes them.
 #[derive(Drop)]
@@ -16,7 +16,7 @@ impl<B: ClauseBase> ClauseSink for Layer<'_, B> {
 
     ghost stops = { λ s c t. Turned (B.meaning s.base.now) c (B.meaning t.base.now) × (t.base.ghost_name ≡ s.base.ghost_name) };
 
-    fn take(&mut self, clause: &[i32]) -> bool {
-        self.base.add(clause).is_ok()
+    fn take(&mut self, clause: &[i32]) -> Result<(), Stopped> {
+        self.base.add(clause).map(|_| ()).map_err(|_| Stopped)
     }
 }

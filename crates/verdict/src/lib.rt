@@ -3,10 +3,12 @@
 
 pub mod check;
 mod counter;
+pub mod counts;
 pub mod fault;
 mod indicators;
 pub mod lawful;
 mod layer;
+mod layout;
 pub mod line;
 mod names;
 pub mod opening;
@@ -16,5 +18,4 @@ pub mod reply;
 pub mod room;
 pub mod session;
 pub mod trying;
-mod variable;
 pub mod whole;

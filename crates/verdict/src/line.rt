@@ -4,27 +4,21 @@ ghost use Rattle.text.specs.Appends.{Appends};
 ghost use Rattle.text.specs.Rows.{Same};
 ghost use Rattle.verdict.specs.Lines.{file_name, number_and, pair, line_bytes, Writes};
 
+use crate::counts::Counts;
 use text::rows::Rows;
 use text::rows::list::Full;
 use text::write::{push_all, push_decimal};
 
 /// A file that is read.
-#[derive(Clone, Copy)]
+#[derive(Clone, Copy, PartialEq, Eq, Debug)]
 pub enum File {
     Problem,
     Answer,
     Certificate,
 }
 
-/// How many names a plan removes, and how many it changes.
-#[derive(Clone, Copy)]
-pub struct Counts {
-    pub removed: u32,
-    pub changed: u32,
-}
-
 /// Why a run is refused: the file, the place in it and the number of the refusal.
-#[derive(Clone, Copy)]
+#[derive(Clone, Copy, PartialEq, Eq, Debug)]
 pub struct Refusal {
     pub file: File,
     pub place: usize,
@@ -32,7 +26,8 @@ pub struct Refusal {
 }
 
 /// What a run comes to.
-#[derive(Clone, Copy)]
+// No `Result`: a refusal is a line like the others, and is printed like them.
+#[derive(Clone, Copy, PartialEq, Eq, Debug)]
 pub enum Line {
     /// The set is a plan with these counts.
     Plan(Counts),
@@ -45,17 +40,16 @@ pub enum Line {
 
 /// Writes the bytes of a line first into memory, zeros after them, and says how many there are. Where it is too short
 /// for them, it is all zero.
+// No `Display`: of a formatting that fails it says nothing, and here a failure means that memory is too short.
 pub fn write_line(line: Line, memory: &mut [u8]) -> Result<usize, Full>
     ensures { Writes (line_bytes line) (length memory.old) result memory.new }
 {
     let mut out = Rows::new(memory, 0);
-    match push_line(line, &mut out) {
-        Ok(()) => Ok(out.len()),
-        Err(full) => {
-            out.clear();
-            Err(full)
-        }
+    if let Err(full) = push_line(line, &mut out) {
+        out.clear();
+        return Err(full);
     }
+    Ok(out.len())
 }
 
 fn push_line(line: Line, out: &mut Rows<'_, u8>) -> Result<(), Full>

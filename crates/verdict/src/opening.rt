@@ -6,25 +6,29 @@ ghost use Rattle.verdict.specs.Laying.{Lays};
 ghost use Rattle.verdict.specs.Opened.{answer_of, Claims, Opens, OnlyRefused};
 ghost use Rattle.verdict.specs.OpeningCalls.{variables_on, clauses_on, within};
 
+use crate::counts::Counts;
 use crate::layer::Layer;
 use crate::opening_clauses::{count_variables, feed_opening};
 use crate::outcome::OpenFault;
 use crate::session::{Claim, Open};
 use clauses::base::ClauseBase;
 use problem::answer::Answer;
-use problem::counts::{changed_names, removed_names};
 use problem::plan_check::{NotPlan, check_plan};
+use problem::sink::Stopped;
 use problem::standing::Standing;
 use problem::view::Problem;
 
 /// Adds the clauses of the opening in their order to a base with no trial, as long as they fit.
-fn lay<B: ClauseBase>(base: &mut B, problem: &Problem<'_, '_, '_>, claim: Claim) -> bool
+fn lay<B: ClauseBase>(
+    base: &mut B,
+    problem: &Problem<'_, '_, '_>,
+    claim: Claim,
+) -> Result<(), Stopped>
     requires { (B.meaning base.old).trial ≡ idle }
     ensures { Lays (B.meaning base.old) (variables_on (problem_of problem.now) (within claim)) (clauses_on (problem_of problem.now) (within claim)) result (B.meaning base.new) }
 {
-    if base.clear(count_variables(problem, claim)).is_err() {
-        return false;
-    }
+    base.clear(count_variables(problem, claim))
+        .map_err(|_| Stopped)?;
     let mut layer = Layer { base };
     feed_opening(problem, claim, &mut layer)
 }
@@ -41,7 +45,7 @@ pub fn claim_on(
         Answer::Fail => Ok(Claim::Fail),
         Answer::Set => {
             check_plan(problem, set)?;
-            Ok(Claim::Plan(removed_names(problem, set), changed_names(problem, set)))
+            Ok(Claim::Plan(Counts::of(problem, set)))
         }
     }
 }
@@ -56,11 +60,9 @@ pub fn open<B: ClauseBase>(
     ensures opens { Opens (B.meaning base.old) (problem_of problem.now) (answer_of answer set.now) result (B.meaning base.new) }
     ensures refused { OnlyRefused (B.meaning base.old) (problem_of problem.now) (answer_of answer set.now) result }
 {
-    if base.clear(0).is_err() {
-        return Err(OpenFault::InTrial);
-    }
+    base.clear(0).map_err(|_| OpenFault::InTrial)?;
     let claim = claim_on(problem, answer, set)?;
-    if !lay(base, problem, claim) {
+    if lay(base, problem, claim).is_err() {
         let _ = base.clear(0);
         return Err(OpenFault::NoRoom);
     }

@@ -2,14 +2,18 @@
 ghost use Rattle.std.specs.Prelude.{◌≡◌};
 ghost use Rattle.verdict.specs.Numbers.{open_number, session_number};
 ghost use Rattle.verdict.specs.declared.outcome.OpenFault.TheVariants.{NotPlan};
+ghost use Rattle.verdict.specs.declared.outcome.RunFault.TheVariants.{Session};
+ghost use Rattle.verdict.specs.declared.outcome.SessionFault.TheVariants.{Opening};
 
+use crate::counts::Counts;
 use crate::reply::StepFault;
 use problem::plan_check::NotPlan as Unplanned;
 
+/// The verdict on a `Claim`.
 #[derive(Clone, Copy, PartialEq, Eq, Debug)]
 pub enum Verdict {
-    /// The names that the plan removes and changes; no plan beats them.
-    Optimal(u32, u32),
+    /// The plan has these counts, and no plan beats them.
+    Optimal(Counts),
     /// There is no plan.
     Impossible,
 }
@@ -34,11 +38,26 @@ pub enum SessionFault {
 /// Why a run up to the first refusal gives no verdict.
 #[derive(Clone, Copy, PartialEq, Eq, Debug)]
 pub enum RunFault {
-    Opening(OpenFault),
+    Session(SessionFault),
     /// With the place of the step.
     Step(StepFault, u32),
-    /// With the place after the last step that was accepted.
-    Unclosed(u64),
+}
+
+// Written out, as the clauses of the calls name what `?` makes of a fault.
+impl From<OpenFault> for SessionFault {
+    ghost from_gives = { λ f r. r ≡ Opening f };
+
+    fn from(fault: OpenFault) -> SessionFault {
+        SessionFault::Opening(fault)
+    }
+}
+
+impl From<OpenFault> for RunFault {
+    ghost from_gives = { λ f r. r ≡ Session (Opening f) };
+
+    fn from(fault: OpenFault) -> RunFault {
+        RunFault::Session(fault.into())
+    }
 }
 
 impl From<Unplanned> for OpenFault {

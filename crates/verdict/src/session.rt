@@ -6,6 +6,7 @@ ghost use Rattle.verdict.specs.Onward.{Onward};
 ghost use Rattle.verdict.specs.Opened.{desk_of, Closes, verdict_for};
 ghost use Rattle.verdict.specs.Session.{Run, Asked};
 
+use crate::counts::Counts;
 use crate::outcome::Verdict;
 use crate::reply::{Reply, StepFault};
 use crate::trying::try_step;
@@ -14,10 +15,11 @@ use certificate::source::Source;
 use clauses::base::ClauseBase;
 
 /// What a session was opened on: no plan is claimed to exist, or a plan with its counts.
+// No `Option`: that there is no plan is claimed too.
 #[derive(Clone, Copy, PartialEq, Eq, Debug)]
 pub enum Claim {
     Fail,
-    Plan(u32, u32),
+    Plan(Counts),
 }
 
 /// An open session: the place of the last step that it accepted, and whether one added the empty clause.
@@ -54,6 +56,7 @@ impl Open {
     }
 
     /// Asks one step: reads it, and takes it or refuses it.
+    // Literals and hints are lent apart: a `&mut` slice says by itself that the memory stays, of the same length.
     pub fn ask<B: ClauseBase, S: Source>(
         &mut self,
         base: &mut B,
@@ -72,9 +75,7 @@ impl Open {
             Ok(Some(found)) => match try_step(base, found.shape, literals, hints) {
                 Ok(empty) => {
                     self.last = found.place;
-                    if empty {
-                        self.emptied = true;
-                    }
+                    self.emptied |= empty;
                     Reply::Taken
                 }
                 Err(f) => Reply::Refused(f, found.place),
@@ -105,7 +106,7 @@ impl Refuted {
     {
         match self.claim {
             Claim::Fail => Verdict::Impossible,
-            Claim::Plan(r, c) => Verdict::Optimal(r, c),
+            Claim::Plan(counts) => Verdict::Optimal(counts),
         }
     }
 }
@@ -142,8 +143,7 @@ fn ask_each<B: ClauseBase, S: Source>(
     while !session.emptied {
         match session.ask(base, source, literals, hints) {
             Reply::Taken => {}
-            Reply::Refused(f, p) => return Reply::Refused(f, p),
-            Reply::Nothing => return Reply::Nothing,
+            last => return last,
         }
     }
     Reply::Taken

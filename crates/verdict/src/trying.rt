@@ -1,62 +1,62 @@
 //! One step tried on a clause base.
-ghost use Rattle.std.specs.Prelude.{◌≡◌, ◌≤◌, length, Some, None};
+ghost use Rattle.std.specs.Prelude.{◌≡◌, ◌≤◌, length, option_map};
 ghost use Rattle.clauses.specs.ClauseBase.{with_trial};
+ghost use Rattle.certificate.specs.Stream.{add};
 ghost use Rattle.certificate.specs.Reading.{step_in, memory_of, literals_in, hints_in};
-ghost use Rattle.verdict.specs.Calls.{Tells, Follow, Settles, Tries};
+ghost use Rattle.verdict.specs.Calls.{Tells, Follow, Tries, Tried};
 
 use crate::reply::StepFault;
 use certificate::found::Shape;
 use clauses::base::ClauseBase;
 use clauses::fault::{BaseFault, Hinted};
 
-/// Whether a clause follows from the clauses held; the trial is over on every way out.
-pub fn follows<B: ClauseBase>(base: &mut B, clause: &[i32]) -> Result<bool, BaseFault>
-    ensures { Tells (B.meaning base.old) clause.now None result (B.meaning base.new) }
-{
-    let mark = base.start(clause)?;
-    let answer = base.run();
-    base.finish(mark);
-    answer
-}
-
 /// Whether the hints, all of them, are a chain from the trial's values; its conflict is at the last.
 fn hints_show<B: ClauseBase>(base: &mut B, hints: &[u32]) -> Result<bool, BaseFault>
     ensures shown { Follow (B.meaning base.old).live (B.meaning base.old).trial hints.now result }
     ensures rest { B.meaning base.new ≡ with_trial (B.meaning base.old) (B.meaning base.new).trial }
 {
-    for (i, h) in hints.iter().enumerate() {
-        match base.hint(*h)? {
-            Hinted::Unit => {}
-            Hinted::Conflict => return Ok(i + 1 == hints.len()),
+    let mut rest = hints;
+    while let Some((hint, later)) = rest.split_first() {
+        match base.hint(*hint)? {
+            Hinted::Unit => rest = later,
+            Hinted::Conflict => return Ok(later.is_empty()),
             Hinted::Useless => return Ok(false),
         }
     }
     Ok(false)
 }
 
-/// Whether a clause follows by these hints alone.
-pub fn follows_by<B: ClauseBase>(
+/// Whether a clause follows from the clauses held, by these hints alone where there are any; the trial is over on every
+/// way out.
+pub fn follows<B: ClauseBase>(
     base: &mut B,
     clause: &[i32],
-    hints: &[u32],
+    hints: Option<&[u32]>,
 ) -> Result<bool, BaseFault>
-    ensures { Tells (B.meaning base.old) clause.now (Some hints.now) result (B.meaning base.new) }
+    ensures { Tells (B.meaning base.old) clause.now (option_map (λ h. h.now) hints.entry) result (B.meaning base.new) }
 {
     let mark = base.start(clause)?;
-    let answer = hints_show(base, hints);
+    let answer = match hints {
+        None => base.run(),
+        Some(hints) => hints_show(base, hints),
+    };
     base.finish(mark);
     answer
 }
 
-/// Adds a clause that was shown, and says whether it is empty.
-fn settle<B: ClauseBase>(base: &mut B, clause: &[i32], shown: bool) -> Result<bool, StepFault>
-    ensures { Settles (B.meaning base.old) clause.now shown result (B.meaning base.new) }
+/// Adds a clause that follows, and says whether it is empty.
+fn try_add<B: ClauseBase>(
+    base: &mut B,
+    clause: &[i32],
+    hints: Option<&[u32]>,
+) -> Result<bool, StepFault>
+    ensures { Tried (B.meaning base.old) (add clause.now (option_map (λ h. h.now) hints.entry)) result (B.meaning base.new) }
 {
-    if !shown {
+    if !follows(base, clause, hints)? {
         return Err(StepFault::NotShown);
     }
     base.add(clause)?;
-    Ok(clause.len() == 0)
+    Ok(clause.is_empty())
 }
 
 /// Tries the step that stands in memory, and says whether it added the empty clause.
@@ -74,15 +74,7 @@ pub(crate) fn try_step<B: ClauseBase>(
             base.delete(n)?;
             Ok(false)
         }
-        Shape::Add(n) => {
-            let clause = &literals[..n];
-            let shown = follows(base, clause)?;
-            settle(base, clause, shown)
-        }
-        Shape::AddHinted(n, k) => {
-            let clause = &literals[..n];
-            let shown = follows_by(base, clause, &hints[..k])?;
-            settle(base, clause, shown)
-        }
+        Shape::Add(n) => try_add(base, &literals[..n], None),
+        Shape::AddHinted(n, k) => try_add(base, &literals[..n], Some(&hints[..k])),
     }
 }

@@ -2,8 +2,8 @@
 ghost use Rattle.std.specs.Prelude.{◌≡◌, length};
 ghost use Rattle.certificate.specs.Reading.{memory_of};
 ghost use Rattle.problem.specs.Meaning.{problem_of};
-ghost use Rattle.verdict.specs.Finding.{Ends, Finds, FindLeaves, FoundTrue, Found};
-ghost use Rattle.verdict.specs.Opened.{answer_of, Concludes, RunLeaves, TrueVerdict, Complete};
+ghost use Rattle.verdict.specs.Finding.{ending, Finds, FindLeaves, FoundTrue, Found};
+ghost use Rattle.verdict.specs.Opened.{answer_of, closing, Concludes, RunLeaves, TrueVerdict, Complete};
 
 use crate::opening::open;
 use crate::outcome::{RunFault, SessionFault, Verdict};
@@ -14,6 +14,16 @@ use clauses::base::ClauseBase;
 use problem::answer::Answer;
 use problem::standing::Standing;
 use problem::view::Problem;
+
+/// Closes a session and gives its verdict.
+fn close(session: Open) -> Result<Verdict, SessionFault>
+    ensures { result ≡ closing session }
+{
+    match session.close() {
+        Ok(refuted) => Ok(refuted.verdict()),
+        Err(still) => Err(SessionFault::Unclosed(still.place)),
+    }
+}
 
 /// Opens a session, asks as many steps as there is place for replies, closes it and gives its verdict.
 pub fn run_session<B: ClauseBase, S: Source>(
@@ -31,27 +41,18 @@ pub fn run_session<B: ClauseBase, S: Source>(
     ensures sound { TrueVerdict (problem_of problem.now) (answer_of answer set.now) result }
     ensures complete { Complete (problem_of problem.now) (answer_of answer set.now) (memory_of literals.old hints.old) (B.meaning base.old) (S.rest source.old) (length replies.old) result }
 {
-    let mut session = match open(base, problem, answer, set) {
-        Ok(session) => session,
-        Err(f) => return Err(SessionFault::Opening(f)),
-    };
+    let mut session = open(base, problem, answer, set)?;
     ask_all(&mut session, base, source, literals, hints, replies);
-    match session.close() {
-        Ok(refuted) => Ok(refuted.verdict()),
-        Err(still) => Err(SessionFault::Unclosed(still.place)),
-    }
+    close(session)
 }
 
 /// What a session comes to after its last reply.
 fn end(session: Open, reply: Reply) -> Result<Verdict, RunFault>
-    ensures { Ends session reply result }
+    ensures { result ≡ ending session reply }
 {
-    if let Reply::Refused(f, p) = reply {
-        return Err(RunFault::Step(f, p));
-    }
-    match session.close() {
-        Ok(refuted) => Ok(refuted.verdict()),
-        Err(still) => Err(RunFault::Unclosed(still.place)),
+    match reply {
+        Reply::Refused(fault, place) => Err(RunFault::Step(fault, place)),
+        Reply::Taken | Reply::Nothing => close(session).map_err(RunFault::Session),
     }
 }
 
@@ -70,10 +71,7 @@ pub fn conclude<B: ClauseBase, S: Source>(
     ensures sound { FoundTrue (problem_of problem.now) (answer_of answer set.now) result }
     ensures complete { Found (problem_of problem.now) (answer_of answer set.now) (memory_of literals.old hints.old) (B.meaning base.old) (S.rest source.old) result }
 {
-    let mut session = match open(base, problem, answer, set) {
-        Ok(session) => session,
-        Err(f) => return Err(RunFault::Opening(f)),
-    };
+    let mut session = open(base, problem, answer, set)?;
     let reply = ask_on(&mut session, base, source, literals, hints);
     end(session, reply)
 }

@@ -3,16 +3,15 @@ ghost use Rattle.std.specs.Prelude.{◌≡◌, ◌-◌, ◌<◌, ◌≤◌, [], 
 ghost use Rattle.clauses.specs.Calls.{Finishes, Hints, Starts};
 ghost use Rattle.clauses.specs.Cells.{Placed};
 ghost use Rattle.clauses.specs.ClauseBase.{is_live, value_in};
-ghost use Rattle.clauses.specs.Common.{meaning_of, Sane, Steady};
+ghost use Rattle.clauses.specs.Common.{meaning_of, Steady};
 ghost use Rattle.clauses.specs.Events.{clause_at};
-ghost use Rattle.clauses.specs.Stored.{Sound};
 ghost use Rattle.clauses.specs.Trying.{Denied, Followed};
 ghost use Rattle.clauses.specs.declared.phase.Phase.TheVariants.{Open};
 
 use super::{Common, Values};
 use crate::fault::{BaseFault, Hinted};
 use crate::form::well_formed;
-use crate::literal::{assign, deny};
+use crate::literal::{assign, give};
 use crate::mark::Mark;
 use crate::phase::Phase;
 use crate::scan::{Status, status_of};
@@ -23,9 +22,7 @@ impl Values<'_> {
     fn unset(&mut self)
         ensures { Denied self.old self.new [] }
     {
-        for cell in 0..self.cells.len() {
-            self.cells[cell] = None;
-        }
+        self.cells.fill(None);
     }
 
     /// The clause's literals are false, all else is unset.
@@ -34,8 +31,8 @@ impl Values<'_> {
         ensures { Denied self.old self.new clause.now }
     {
         self.unset();
-        for i in (0..clause.len()).rev() {
-            deny(self.cells, clause[i]);
+        for literal in clause.iter().rev() {
+            give(self.cells, *literal, false);
         }
     }
 }
@@ -43,7 +40,6 @@ impl Values<'_> {
 /// What the clause in row k says. Sets the literal that it forces.
 fn judge(store: &Store, cells: &mut [Option<bool>], k: usize) -> Hinted
     requires k { k < store.now.count }
-    requires sound { Sound store.now }
     requires placed { store.now.variables ≤ length cells.old - 1 }
     ensures { Followed cells.old cells.new (clause_at store.now k) result }
 {
@@ -57,9 +53,9 @@ fn judge(store: &Store, cells: &mut [Option<bool>], k: usize) -> Hinted
     }
 }
 
+// `hint` lends the store beside the values, and a slice behind a reference can only be lent on from a parameter.
 fn follow(store: &Store, values: &mut Values, k: usize) -> Hinted
     requires k { k < store.now.count }
-    requires sound { Sound store.now }
     requires placed { store.now.variables ≤ length values.old.cells.now - 1 }
     ensures says { Followed values.old.cells.now values.new.cells.now (clause_at store.now k) result }
     ensures cells { length values.new.cells.now ≡ length values.old.cells.now }
@@ -72,20 +68,14 @@ impl Common<'_> {
     pub fn is_open(&self) -> bool
         ensures { Decides result (self.now.phase ≡ Open) }
     {
-        match self.phase {
-            Phase::Idle => false,
-            Phase::Open => true,
-            Phase::Answered => false,
-        }
+        self.phase == Phase::Open
     }
 
     pub(crate) fn start(&mut self, clause: &[i32]) -> Result<Mark, BaseFault>
-        requires { Sane self.old }
         ensures call { Starts (meaning_of self.old) clause.now result (meaning_of self.new) }
-        ensures sane { Sane self.new }
         ensures steady { Steady self.old self.new }
     {
-        if !self.is_idle() {
+        if self.phase != Phase::Idle {
             return Err(BaseFault::InTrial);
         }
         if !well_formed(clause, self.store.variables) {
@@ -97,31 +87,22 @@ impl Common<'_> {
     }
 
     pub(crate) fn hint(&mut self, number: u32) -> Result<Hinted, BaseFault>
-        requires { Sane self.old }
         ensures call { Hints (meaning_of self.old) number result (meaning_of self.new) }
-        ensures sane { Sane self.new }
         ensures steady { Steady self.old self.new }
     {
         if !self.is_open() {
             return Err(BaseFault::InTrial);
         }
-        match self.store.find(number) {
-            Some(k) => match follow(&self.store, &mut self.values, k) {
-                Hinted::Unit => Ok(Hinted::Unit),
-                Hinted::Conflict => {
-                    self.phase = Phase::Answered;
-                    Ok(Hinted::Conflict)
-                }
-                Hinted::Useless => Ok(Hinted::Useless),
-            },
-            None => Err(BaseFault::NotLive),
+        let k = self.store.find(number).ok_or(BaseFault::NotLive)?;
+        let said = follow(&self.store, &mut self.values, k);
+        if said == Hinted::Conflict {
+            self.phase = Phase::Answered;
         }
+        Ok(said)
     }
 
     pub(crate) fn finish(&mut self, mark: Mark)
-        requires { Sane self.old }
         ensures call { Finishes (meaning_of self.old) (meaning_of self.new) }
-        ensures sane { Sane self.new }
         ensures steady { Steady self.old self.new }
     {
         let Mark { seal: () } = mark;
@@ -129,7 +110,6 @@ impl Common<'_> {
     }
 
     pub(crate) fn is_live(&self, number: u32) -> bool
-        requires { Sane self.now }
         ensures { result ≡ is_live (meaning_of self.now).live number }
     {
         self.store.find(number).is_some()
@@ -141,11 +121,6 @@ impl Common<'_> {
         if !self.is_open() {
             return None;
         }
-        let cell = variable as usize;
-        if cell < self.values.cells.len() {
-            self.values.cells[cell]
-        } else {
-            None
-        }
+        self.values.cells.get(variable as usize).copied().flatten()
     }
 }

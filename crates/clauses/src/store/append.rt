@@ -1,27 +1,29 @@
 //! A store with one more clause.
 ghost use Rattle.std.specs.Prelude.{◌+◌, ◌^◌, ◌<◌, ◌≤◌, length};
 ghost use Rattle.clauses.specs.Growth.{Copied, Pushed, Sealed, Speaks};
-ghost use Rattle.clauses.specs.Stored.{Sound};
+ghost use Rattle.clauses.specs.Rows.{Named, Under};
 
 use super::Store;
 use crate::row::Row;
 
 impl Store<'_> {
     /// Copies literals behind those in use.
+    #[tactic(auto, using(std::proofs::lemmas::Slice::overwrites))]
     fn copy_in(&mut self, clause: &[i32])
         requires { self.old.filled + length clause.now ≤ length self.old.literals.now }
         ensures { Copied self.old self.new clause.now }
     {
         let end = self.filled;
-        for i in 0..clause.len() {
-            self.literals[end + i] = clause[i];
-        }
+        self.literals[end..end + clause.len()].copy_from_slice(clause);
     }
 
     /// Takes so many literals more into use, as a clause.
     pub(super) fn seal(&mut self, number: u32, len: usize)
         requires row { self.old.count < length self.old.rows.now }
-        requires small { self.old.filled + len < 2 ^ 32 }
+        requires literals { self.old.filled + len ≤ length self.old.literals.now }
+        requires above { Under self.old.rows.now self.old.count number }
+        requires next { number < self.old.next }
+        requires named { Named self.old.literals.now (self.old.filled + len) self.old.variables }
         ensures { Sealed self.old self.new number len }
     {
         let at = self.count;
@@ -38,10 +40,8 @@ impl Store<'_> {
 
     /// Adds a clause under the next number.
     pub(crate) fn push(&mut self, clause: &[i32])
-        requires sound { Sound self.old }
         requires row { self.old.count < length self.old.rows.now }
         requires literals { self.old.filled + length clause.now ≤ length self.old.literals.now }
-        requires small { self.old.filled + length clause.now < 2 ^ 32 }
         requires number { self.old.next + 1 < 2 ^ 32 }
         requires speaks { Speaks clause.now self.old.variables }
         ensures { Pushed self.old self.new clause.now }

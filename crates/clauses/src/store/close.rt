@@ -2,7 +2,6 @@
 ghost use Rattle.std.specs.Prelude.{◌≡◌, ◌+◌, ◌<◌, ◌≤◌, length, take, drop};
 ghost use Rattle.clauses.specs.Closing.{room_for, Closed, Spacious};
 ghost use Rattle.clauses.specs.Growth.{Copied};
-ghost use Rattle.clauses.specs.Stored.{Sound};
 
 use super::Store;
 
@@ -13,18 +12,11 @@ impl Store<'_> {
         requires within { from + len ≤ length self.old.literals.now }
         ensures { Copied self.old self.new (take len (drop from self.old.literals.now)) }
     {
-        let end = self.filled;
-        if end == from {
-            return;
-        }
-        for i in 0..len {
-            self.literals[end + i] = self.literals[from + i];
-        }
+        self.literals.copy_within(from..from + len, self.filled);
     }
 
     /// Closes the gaps: each row is live, and its literals follow those of the row before.
     pub(crate) fn close(&mut self)
-        requires { Sound self.old }
         ensures { Closed self.old self.new }
     {
         let total = self.count;
@@ -41,7 +33,6 @@ impl Store<'_> {
 
     /// Whether one more clause of so many literals has room. Gaps are closed only where they are needed.
     pub(crate) fn make_room(&mut self, len: usize) -> bool
-        requires { Sound self.old }
         ensures { Spacious self.old self.new len result }
     {
         if self.has_room(len) {
@@ -53,7 +44,6 @@ impl Store<'_> {
 
     /// Whether there is room behind the rows and literals in use.
     fn has_room(&self, len: usize) -> bool
-        requires { Sound self.now }
         ensures { result ≡ room_for self.now.count self.now.filled len self.now }
     {
         self.count < self.rows.len() && len <= self.literals.len() - self.filled

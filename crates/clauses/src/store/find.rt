@@ -2,35 +2,21 @@
 ghost use Rattle.std.specs.Prelude.{ℕ, ◌<◌, ◌≤◌};
 ghost use Rattle.clauses.specs.Finding.{Found, TakenOut};
 ghost use Rattle.clauses.specs.Rows.{row_at};
-ghost use Rattle.clauses.specs.Stored.{Sound};
 
 use super::Store;
-use crate::row::Row;
 
 impl Store<'_> {
     /// How many rows have a lower number.
     fn lower(&self, number: u32) -> usize
-        requires { Sound self.now }
         ensures within { result ≤ self.now.count }
         ensures below { (j : ℕ) → j < result → (row_at self.now.rows.now j).number < number }
         ensures above { (j : ℕ) → result ≤ j → j < self.now.count → number ≤ (row_at self.now.rows.now j).number }
     {
-        let mut low = 0;
-        let mut high = self.count;
-        while low < high {
-            let middle = low + (high - low) / 2;
-            if self.rows[middle].number < number {
-                low = middle + 1;
-            } else {
-                high = middle;
-            }
-        }
-        low
+        self.rows[..self.count].partition_point(|row| row.number < number)
     }
 
     /// The row of the live clause with this number.
     pub(crate) fn find(&self, number: u32) -> Option<usize>
-        requires { Sound self.now }
         ensures { Found self.now number result }
     {
         let k = self.lower(number);
@@ -38,25 +24,14 @@ impl Store<'_> {
             return None;
         }
         let row = self.rows[k];
-        if row.number == number && row.live {
-            Some(k)
-        } else {
-            None
-        }
+        (row.number == number && row.live).then_some(k)
     }
 
     /// Takes the clause in row k out. Its row holds its place until the gaps are closed.
     pub(crate) fn take_out(&mut self, k: usize)
-        requires k { k < self.old.count }
-        requires sound { Sound self.old }
+        requires { k < self.old.count }
         ensures { TakenOut self.old self.new k }
     {
-        let row = self.rows[k];
-        self.rows[k] = Row {
-            number: row.number,
-            start: row.start,
-            len: row.len,
-            live: false,
-        };
+        self.rows[k].live = false;
     }
 }

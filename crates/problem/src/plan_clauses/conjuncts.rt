@@ -1,80 +1,55 @@
 //! The clauses of a package's dependencies.
 ghost use Rattle.std.specs.Prelude.{◌≡◌, suc, ◌<◌, ◌≤◌, length};
 ghost use Rattle.text.specs.Lists.{each_all};
-ghost use Rattle.text.specs.Rows.{room};
 ghost use Rattle.problem.specs.Feeding.{Fed};
 ghost use Rattle.problem.specs.Meaning.{conjuncts};
 ghost use Rattle.problem.specs.PlanClauses.{needs};
-ghost use Rattle.problem.specs.Stanzas.{row_satisfies_one, passing, conjunct_len};
+ghost use Rattle.problem.specs.Stanzas.{row_satisfies_one, passing};
 
-use super::literals::{write_met, write_out};
-use crate::rows::{ConstraintRow, PackageRow};
-use crate::satisfy::satisfies_one;
-use crate::sink::ClauseSink;
+use super::literals::{put, variable_at, write_met};
+use crate::rows::ConstraintRow;
+use crate::sink::{ClauseSink, Stopped};
+use crate::stanzas::Stanzas;
+use crate::view::PACKAGES_MOST;
 use text::rows::Rows;
 
 /// The clause of a conjunct of the package at `place`; none if that package meets it itself.
 fn feed_conjunct<S: ClauseSink>(
-    text: &[u8],
-    packages: &[PackageRow],
+    stanzas: &Stanzas<'_>,
     place: usize,
     group: &[ConstraintRow],
-    clause: &mut Rows<'_, i32>,
     sink: &mut S,
-) -> bool
-    requires place { place < length packages.now }
-    requires few { length packages.now ≤ 256 }
-    requires fits { 256 ≤ room clause.old }
-    ensures fed { Fed S.goes S.stops (needs (suc place) (passing (row_satisfies_one text.now group.now) 0 packages.now)) result sink.old sink.new }
-    ensures room { room clause.new ≡ room clause.old }
+) -> Result<(), Stopped>
+    requires { place < length stanzas.now.rows.now }
+    ensures { Fed S.goes S.stops (needs (suc place) (passing (row_satisfies_one stanzas.now.text.now group.now) 0 stanzas.now.rows.now)) result sink.old sink.new }
 {
-    if satisfies_one(text, group, &packages[place]) {
-        return true;
+    if stanzas.satisfies_one(group, &stanzas.rows[place]) {
+        return Ok(());
     }
-    clause.clear();
-    write_met(text, &packages[0..place], 0, group, clause);
-    write_out(clause, place);
-    write_met(text, &packages[place + 1..], place + 1, group, clause);
+    let mut memory = [0; PACKAGES_MOST];
+    let mut clause = Rows::new(&mut memory, 0);
+    let (before, after) = stanzas.around(place);
+    write_met(&before, 0, group, &mut clause);
+    put(&mut clause, variable_at(place).no());
+    write_met(&after, place + 1, group, &mut clause);
     sink.take(clause.as_slice())
-}
-
-/// How many rows the first conjunct has.
-fn conjunct_len(rows: &[ConstraintRow]) -> usize
-    ensures value { result ≡ conjunct_len rows.now }
-    ensures within { result ≤ length rows.now }
-    ensures some { 0 < length rows.now → 0 < result }
-{
-    for (i, row) in rows.iter().enumerate() {
-        if row.last {
-            return i + 1;
-        }
-    }
-    rows.len()
 }
 
 /// The clauses of the conjuncts of the package at `place`.
 pub(super) fn feed_depends<S: ClauseSink>(
-    text: &[u8],
-    packages: &[PackageRow],
+    stanzas: &Stanzas<'_>,
     place: usize,
     depends: &[ConstraintRow],
-    clause: &mut Rows<'_, i32>,
     sink: &mut S,
-) -> bool
-    requires place { place < length packages.now }
-    requires few { length packages.now ≤ 256 }
-    requires fits { 256 ≤ room clause.old }
-    ensures fed { Fed S.goes S.stops (each_all (λ cs. needs (suc place) (passing (row_satisfies_one text.now cs) 0 packages.now)) (conjuncts depends.now)) result sink.old sink.new }
-    ensures room { room clause.new ≡ room clause.old }
+) -> Result<(), Stopped>
+    requires { place < length stanzas.now.rows.now }
+    ensures { Fed S.goes S.stops (each_all (λ cs. needs (suc place) (passing (row_satisfies_one stanzas.now.text.now cs) 0 stanzas.now.rows.now)) (conjuncts depends.now)) result sink.old sink.new }
 {
-    let mut start = 0;
-    while start < depends.len() {
-        let rest = &depends[start..];
-        let len = conjunct_len(rest);
-        if !feed_conjunct(text, packages, place, &rest[0..len], clause, sink) {
-            return false;
-        }
-        start += len;
+    // Tried: one `for` over the groups, which the check refuses in a function with a type parameter.
+    let mut rest = depends;
+    while let Some(group) = rest.split_inclusive(|row| row.last).next() {
+        feed_conjunct(stanzas, place, group, sink)?;
+        rest = &rest[group.len()..];
     }
-    true
+    Ok(())
 }

@@ -5,6 +5,7 @@ ghost use Rattle.problem.specs.Rows.{span_in, Spanned, no_package};
 
 use super::Problem;
 use crate::rows::{ConstraintRow, PackageRow, Span};
+use crate::stanzas::Stanzas;
 
 impl<'t, 'p, 'c> Problem<'t, 'p, 'c> {
     /// The document.
@@ -20,6 +21,17 @@ impl<'t, 'p, 'c> Problem<'t, 'p, 'c> {
         ensures len { length result.now ≡ self.now.count }
     {
         &self.packages[0..self.count]
+    }
+
+    /// The package stanzas, beside the document.
+    pub fn stanzas(&self) -> Stanzas<'_>
+        ensures text { result.text.now ≡ self.now.text.now }
+        ensures rows { result.rows.now ≡ packages_in self.now }
+    {
+        Stanzas {
+            text: self.text,
+            rows: self.packages(),
+        }
     }
 
     /// The constraints of all lists.

@@ -5,7 +5,7 @@ ghost use Rattle.text.specs.Pieces.{pieces};
 ghost use Rattle.text.specs.Word.{word_in};
 
 use super::Parts;
-use crate::find::index_of;
+use crate::find::split_once;
 use crate::word::{Word, bytes_of, clamped};
 
 impl<'a> Parts<'a> {
@@ -16,9 +16,8 @@ impl<'a> Parts<'a> {
     {
         Parts {
             text,
-            rest: clamped(text, part),
+            rest: Some(clamped(text, part)),
             mark,
-            done: false,
         }
     }
 
@@ -34,33 +33,24 @@ impl<'a> Parts<'a> {
     }
 
     /// Whether no piece is left.
+    #[tactic(auto, using(crate::proofs::Cuts::none_tells))]
     pub fn is_done(&self) -> bool
         ensures { MatchBool result (left self.now ≡ []) (left self.now ≢ []) }
     {
-        self.done
+        self.rest.is_none()
     }
 
     /// Takes the next piece, by its place.
     pub fn next_part(&mut self) -> Option<Word>
         ensures { Takes self.old self.new result }
     {
-        if self.done {
-            return None;
-        }
-        let rest = self.rest;
-        let n = index_of(bytes_of(self.text, rest), self.mark);
-        if n >= rest.len {
-            self.done = true;
+        let rest = self.rest?;
+        let Some((part, more)) = split_once(self.text, rest, self.mark) else {
+            self.rest = None;
             return Some(rest);
-        }
-        self.rest = Word {
-            start: rest.start + n + 1,
-            len: rest.len - n - 1,
         };
-        Some(Word {
-            start: rest.start,
-            len: n,
-        })
+        self.rest = Some(more);
+        Some(part)
     }
 
     /// Takes the next piece, by its bytes.

@@ -1,8 +1,8 @@
-use Rattle.std.proofs.Common.{Some, ap, ◌∙◌, arith}
+use Rattle.std.proofs.Common.{length, Some, ap, ◌∙◌, arith}
 use Rattle.certificate.specs.Hinted.{hinted_addition}
 use Rattle.certificate.specs.Reading.{memory_of}
 use Rattle.certificate.proofs.FourBytes.{length-words}
-use Rattle.certificate.proofs.Kept.{kept_none, kept_step, words_in, words_out, words_shape}
+use Rattle.certificate.proofs.Kept.{kept_none, shape_kept, words_in, words_out, words_shape}
 use Rattle.certificate.proofs.record.put_addition.Goals as goal
 
 pub returns-then-n-literals : goal.returns-then-n-literals
@@ -12,15 +12,16 @@ returns-then-n-literals c =
     let h = kept_none k (hinted_addition c.args.clause.now c.args.chain.now) _ _ out c.blank.ensures.literals c.blank.ensures.hints in
     record { shape = h.0; memory = h.1 }
 
-pub put_literals-requires : goal.put_literals-requires
-put_literals-requires c = omega (arith, length-words c.args.clause.now)
+pub push_words-requires : goal.push_words-requires
+push_words-requires c =
+    omega (arith, length-words c.args.clause.now, ap length c.new-rows.ensures.items, c.new-rows.ensures.room)
 
-pub put_hints-requires : goal.put_hints-requires
-put_hints-requires c = omega (arith, length-words c.args.chain.now)
+pub push_words-requires-2 : goal.push_words-requires-2
+push_words-requires-2 c =
+    omega (arith, length-words c.args.chain.now, ap length c.new-rows-2.ensures.items, c.new-rows-2.ensures.room)
 
-pub returns : goal.returns
-returns c =
+pub returns-clause-shape : goal.returns-clause-shape
+returns-clause-shape c =
     let k = memory_of c.args.literals.now c.args.hints.now in
     let fits = words_in k c.args.clause.now c.args.chain.now c.if-n-literals.false c.if-k-hints.false in
-    let h = kept_step k (hinted_addition c.args.clause.now c.args.chain.now) _ _ fits c.put_literals.ensures c.put_hints.ensures in
-    record { shape = ap Some (words_shape c.args.clause.now c.args.chain.now) ∙ h.0; memory = h.1 }
+    ap Some (words_shape c.args.clause.now c.args.chain.now) ∙ shape_kept k (hinted_addition c.args.clause.now c.args.chain.now) fits

@@ -13,7 +13,7 @@ enter-requires c =
     let fits : SFits w32 (get_or c.clause-literals.result.now i (pos 0)) = search rules in
     let q = read_code c.clause-literals.result.now (clause_at s c.args.k) i c.code_of.result fits c.clause-literals.ensures c.code_of.ensures.value in
     let r = entry_fits s c.args.index.now c.loop-literal.index c.args.k i c.requires.k h e in
-    record { linked = e.fit.linked; code = rw q (code_fits s c.loop-literal.index c.args.k i e.fit c.requires.k h); next = r.0; owners = r.1; small = r.2 }
+    record { code = rw q (code_fits s c.loop-literal.index c.args.k i e.fit c.requires.k h); next = r.0; owners = r.1; small = r.2 }
 
 pub loop-literal-preserved : goal.loop-literal-preserved
 loop-literal-preserved c =
@@ -22,7 +22,7 @@ loop-literal-preserved c =
     let n : length c.clause-literals.result.now ≡ length (clause_at s c.args.k) = ap length c.clause-literals.ensures in
     let fits : SFits w32 (get_or c.clause-literals.result.now i (pos 0)) = search rules in
     let q = read_code c.clause-literals.result.now (clause_at s c.args.k) i c.code_of.result fits c.clause-literals.ensures c.code_of.ensures.value in
-    entering_more s c.args.index.now c.loop-literal.index c.enter.new.self c.args.k i c.code_of.result c.requires.k (omega arith) q c.enter.ensures.linked c.enter.ensures.used c.enter.ensures.lists c.enter.ensures.heads c.enter.ensures.next c.enter.ensures.owners c.loop-literal.invariant
+    entering_more s c.args.index.now c.loop-literal.index c.enter.new.self c.args.k i c.code_of.result c.requires.k (omega arith) q c.enter.ensures.used c.enter.ensures.lists c.enter.ensures.heads c.enter.ensures.next c.enter.ensures.owners c.loop-literal.invariant
 
 pub returns : goal.returns
 returns c =

@@ -11,7 +11,7 @@ status_of-requires c = row_placed c.args.store.now c.args.k _ c.clause.ensures c
 pub returns-in-Conflict : goal.returns-in-Conflict
 returns-in-Conflict c =
     let r = c.requires.ready in
-    record { goes = row_conflict c.args.store.now c.args.k _ c.clause.ensures c.requires.k r.sound _ _ (r.dense _ c.requires.k) (reached_none _ _) c.in-Conflict.ensures; ready = r; looked = tt; room = refl }
+    record { goes = row_conflict c.args.store.now c.args.k _ c.clause.ensures c.requires.k r.sound _ _ (r.dense _ c.requires.k) (reached_none _ _) c.in-Conflict.ensures; ready = r; examined = tt; room = refl }
 
 pub assign-requires : goal.assign-requires
 assign-requires c =
@@ -28,10 +28,10 @@ returns-in-Forced c =
     record {
       goes = (forced_step c.args.store.now c.args.k _ c.clause.ensures c.requires.k _ c.args.trail.now c.requires.ready c.in-Forced.literal fits c.in-Forced.ensures _ c.assign.ensures).0;
       ready = forced_ready c.args.store.now c.args.k _ c.clause.ensures c.requires.k _ c.args.trail.now c.requires.ready c.in-Forced.literal fits c.in-Forced.ensures _ c.assign.ensures c.push.new.self e.tail e.literals;
-      looked = forced_examined c.args.store.now c.args.k _ c.clause.ensures c.requires.k _ c.args.trail.now c.requires.ready c.in-Forced.literal fits c.in-Forced.ensures _ c.assign.ensures c.push.new.self e.tail e.literals;
+      examined = forced_examined c.args.store.now c.args.k _ c.clause.ensures c.requires.k _ c.args.trail.now c.requires.ready c.in-Forced.literal fits c.in-Forced.ensures _ c.assign.ensures c.push.new.self e.tail e.literals;
       room = e.room;
     }
 
 pub returns-in-Other : goal.returns-in-Other
 returns-in-Other c =
-    record { goes = reached_none _ _; ready = c.requires.ready; looked = other_examined c.args.store.now c.args.k _ c.clause.ensures c.requires.k _ c.args.trail.now c.requires.ready.sound c.in-Other.ensures; room = refl }
+    record { goes = reached_none _ _; ready = c.requires.ready; examined = other_examined c.args.store.now c.args.k _ c.clause.ensures c.requires.k _ c.args.trail.now c.requires.ready.sound c.in-Other.ensures; room = refl }

@@ -1,6 +1,7 @@
 use Rattle.std.proofs.Common.{◌≡◌, ◌<◌, length, get_or, pos, ap, ⊎_elim, arith, w32, SFits, rules}
 use Rattle.clauses.specs.Events.{clause_at}
-use Rattle.clauses.proofs.Entries.{read_code}
+use Rattle.clauses.proofs.Entries.{linked_of, read_code}
+use Rattle.clauses.proofs.Memory.{sound_of}
 use Rattle.clauses.proofs.Guarding.{code_listed, enlisted}
 use Rattle.clauses.proofs.watches.enlist.Goals as goal
 
@@ -12,7 +13,7 @@ enter-requires c =
     let q = read_code c.clause-literals.result.now (clause_at s c.args.k) c.args.place c.code_of.result fits c.clause-literals.ensures c.code_of.ensures.value in
     let g = c.requires.guards in
     let r : c.args.index.now.used < s.filled = c.requires.room c.if-places-k.false c.if-places-k-2.false in
-    record { linked = g.linked; code = rw q (code_listed s c.args.index.now c.args.k c.args.place c.requires.sound g c.requires.k c.requires.place); next = omega (arith, r, g.next); owners = omega (arith, r, g.owners); small = omega (arith, r, c.requires.sound.small) }
+    record { code = rw q (code_listed s c.args.index.now c.args.k c.args.place (sound_of s) g c.requires.k c.requires.place); next = omega (arith, r, g.next); owners = omega (arith, r, g.owners); small = omega (arith, r, s.within, s.small) }
 
 pub returns : goal.returns
 returns c =
@@ -23,4 +24,4 @@ returns c =
     let e = c.enter.ensures in
     let g = c.requires.guards in
     let r : c.args.index.now.used < s.filled = c.requires.room c.if-places-k.false c.if-places-k-2.false in
-    enlisted c.args.index.now c.enter.new.self c.code_of.result c.args.k g.linked (rw q (code_listed s c.args.index.now c.args.k c.args.place c.requires.sound g c.requires.k c.requires.place)) (omega (arith, r, g.next)) (omega (arith, r, g.owners)) e.used e.lists e.heads e.next e.owners s c.args.place c.args.places.now g e.linked c.requires.k q (⊎_elim c.if-places-k.false c.if-places-k-2.false)
+    enlisted c.args.index.now c.enter.new.self c.code_of.result c.args.k g.linked (rw q (code_listed s c.args.index.now c.args.k c.args.place (sound_of s) g c.requires.k c.requires.place)) (omega (arith, r, g.next)) (omega (arith, r, g.owners)) e.used e.lists e.heads e.next e.owners s c.args.place c.args.places.now g (linked_of c.enter.new.self) c.requires.k q (⊎_elim c.if-places-k.false c.if-places-k-2.false)

@@ -21,7 +21,7 @@ enlist-requires c =
     let ok = c.requires.ready.sound in
     let wide : 2 * k + 1 < length w = omega (arith, c.requires.k, c.requires.places) in
     let t : TwoOpen xs (clause_at s k) (get_or w (2 * k) 0) (get_or w (2 * k + 1) 0) (Some (c.in-Some.first, c.in-Some.second)) = subst (λ (d : Clause). TwoOpen xs d (get_or w (2 * k) 0) (get_or w (2 * k + 1) 0) (Some (c.in-Some.first, c.in-Some.second))) c.clause.ensures c.in-Some.ensures in
-    record { k = c.requires.k; few = c.requires.few; sound = ok; place = t.0.first; places = c.requires.places; guards = c.requires.guards; room = λ a b. spots_room s k c.in-Some.first c.args.index.now.used xs w ok c.requires.k t.0.first t.0.first_open c.requires.spots (⊎_elim a b) }
+    record { k = c.requires.k; place = t.0.first; places = c.requires.places; guards = c.requires.guards; room = λ a b. spots_room s k c.in-Some.first c.args.index.now.used xs w ok c.requires.k t.0.first t.0.first_open c.requires.spots (⊎_elim a b) }
 
 pub overflow_cast-places : goal.overflow_cast-places
 overflow_cast-places c =
@@ -40,7 +40,7 @@ enlist-requires-in-Some c =
     let wide : 2 * k + 1 < length w = omega (arith, c.requires.k, c.requires.places) in
     let t : TwoOpen xs (clause_at s k) (get_or w (2 * k) 0) (get_or w (2 * k + 1) 0) (Some (c.in-Some.first, c.in-Some.second)) = subst (λ (d : Clause). TwoOpen xs d (get_or w (2 * k) 0) (get_or w (2 * k + 1) 0) (Some (c.in-Some.first, c.in-Some.second))) c.clause.ensures c.in-Some.ensures in
     let f : Spotted s c.enlist.new.index.used xs (set w (2 * k) c.in-Some.first) = first_spots s k c.in-Some.first c.in-Some.second (get_or w (2 * k) 0) (get_or w (2 * k + 1) 0) w c.args.index.now c.enlist.new.index c.enlist.new.index xs c.args.trail.now ok c.requires.k wide t.0 c.enlist.ensures refl t.1 c.requires.spots in
-    record { k = c.requires.k; few = c.requires.few; sound = ok; place = t.0.second; places = simp length-set c.requires.places; guards = c.enlist.ensures.guards; room = λ a b. spots_room s k c.in-Some.second c.enlist.new.index.used xs (set w (2 * k) c.in-Some.first) ok c.requires.k t.0.second t.0.second_open f (⊎_elim a b) }
+    record { k = c.requires.k; place = t.0.second; places = simp length-set c.requires.places; guards = c.enlist.ensures.guards; room = λ a b. spots_room s k c.in-Some.second c.enlist.new.index.used xs (set w (2 * k) c.in-Some.first) ok c.requires.k t.0.second t.0.second_open f (⊎_elim a b) }
 
 pub overflow_cast-places-in-Some : goal.overflow_cast-places-in-Some
 overflow_cast-places-in-Some c =
@@ -62,7 +62,7 @@ returns-in-Some c =
     let z = c.enlist-in-Some.new.index in
     let g : Spotted s z.used xs (set (set w (2 * k) c.in-Some.first) (2 * k + 1) c.in-Some.second) = second_spots s k c.in-Some.first c.in-Some.second (get_or w (2 * k) 0) (get_or w (2 * k + 1) 0) w c.args.index.now c.enlist.new.index z xs c.args.trail.now ok c.requires.k wide t.0 c.enlist.ensures refl t.2 c.enlist-in-Some.ensures f in
     let v = visited_pair s k c.in-Some.first c.in-Some.second (get_or w (2 * k) 0) (get_or w (2 * k + 1) 0) w c.args.index.now c.enlist.new.index z xs c.args.trail.now ok c.requires.k wide t.0 c.enlist.ensures c.enlist-in-Some.ensures g in
-    record { goes = reached_none _ _; ready = c.requires.ready; visited = λ _. v; same = v.grown.same; room = refl }
+    record { goes = reached_none _ _; ready = c.requires.ready; visited = v; same = v.grown.same; room = refl }
 
 pub returns-in-None : goal.returns-in-None
 returns-in-None c =
@@ -70,7 +70,7 @@ returns-in-None c =
     record {
       goes = e.goes;
       ready = e.ready;
-      visited = λ q. visited_examine c.args.store.now c.args.k c.args.places.now c.args.index.now c.args.values.now c.examine.new.values c.args.trail.now c.examine.new.trail c.clause.result.now c.examine.result q c.clause.ensures c.requires.guards c.requires.spots c.in-None.ensures e.goes e.looked;
+      visited = visited_examine c.args.store.now c.args.k c.args.places.now c.args.index.now c.args.values.now c.examine.new.values c.args.trail.now c.examine.new.trail c.clause.result.now c.examine.result c.clause.ensures c.requires.guards c.requires.spots c.in-None.ensures e.goes e.examined;
       same = same_none c.args.index.now;
       room = e.room;
     }

@@ -1,25 +1,12 @@
-use Rattle.std.proofs.Common.{map, sym, ap, ◌∙◌, rules}
-use Rattle.problem.specs.Answers.{stanza_in}
-use Rattle.problem.specs.Meaning.{constraints_in, package_of}
-use Rattle.problem.specs.Rows.{no_package}
-use Rattle.problem.proofs.Finding.{look_start, look_found, look_more, look_none}
+use Rattle.std.proofs.Common.{◌∙◌, rules, tests}
+use Rattle.std.proofs.lemmas.Iterator.{YieldsList-from_slice}
+use Rattle.std.proofs.lemmas.Iterator.Search.{position_from_yields_List}
+use Rattle.problem.specs.Meaning.{constraints_in, packages_in}
+use Rattle.problem.proofs.Finding.{is_it, place_found}
 use Rattle.problem.proofs.answer_lines.find_stanza.Goals as goal
-
-pub loop-i-init : goal.loop-i-init
-loop-i-init c = look_start c.text-text.result.now (constraints_in c.args.problem.now) c.args.name.now c.args.version c.packages-packages.result.now
-
-pub returns-then-is_stanza : goal.returns-then-is_stanza
-returns-then-is_stanza c =
-    look_found c.text-text.result.now (constraints_in c.args.problem.now) c.args.name.now c.args.version c.packages-packages.result.now c.loop-i.i no_package (search rules) (sym c.is_stanza.ensures ∙ c.if-is_stanza.true) c.loop-i.invariant
-    ∙ ap (λ t. stanza_in c.args.name.now c.args.version (map (package_of t (constraints_in c.args.problem.now)) c.packages-packages.result.now)) c.text-text.ensures
-    ∙ ap (λ r. stanza_in c.args.name.now c.args.version (map (package_of c.args.problem.now.text.now (constraints_in c.args.problem.now)) r)) c.packages-packages.ensures.value
-
-pub loop-i-preserved : goal.loop-i-preserved
-loop-i-preserved c =
-    look_more c.text-text.result.now (constraints_in c.args.problem.now) c.args.name.now c.args.version c.packages-packages.result.now c.loop-i.i no_package (search rules) (sym c.is_stanza.ensures ∙ c.if-is_stanza.false) c.loop-i.invariant
 
 pub returns : goal.returns
 returns c =
-    look_none c.text-text.result.now (constraints_in c.args.problem.now) c.args.name.now c.args.version c.packages-packages.result.now c.loop-i.i (search rules) c.loop-i.invariant
-    ∙ ap (λ t. stanza_in c.args.name.now c.args.version (map (package_of t (constraints_in c.args.problem.now)) c.packages-packages.result.now)) c.text-text.ensures
-    ∙ ap (λ r. stanza_in c.args.name.now c.args.version (map (package_of c.args.problem.now.text.now (constraints_in c.args.problem.now)) r)) c.packages-packages.ensures.value
+    let v = c.args.problem.now in
+    position_from_yields_List (is_it v.text.now (constraints_in v) c.args.name.now c.args.version) _ _ _ c.position.ensures.ran (YieldsList-from_slice (packages_in v) cc) (λ x b q k. search (rules, tests))
+    ∙ place_found v.text.now (constraints_in v) c.args.name.now c.args.version (packages_in v)

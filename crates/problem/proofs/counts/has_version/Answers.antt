@@ -1,15 +1,11 @@
-use Rattle.std.proofs.Common.{sym, ◌∙◌}
-use Rattle.problem.specs.Rows.{no_package}
-use Rattle.problem.proofs.Names.{version_step, version_none}
+use Rattle.std.proofs.Common.{◌∙◌, rules, tests}
+use Rattle.std.proofs.lemmas.Iterator.{YieldsList-from_slice}
+use Rattle.std.proofs.lemmas.Iterator.Consumers.{YieldsList-from_enumerate}
+use Rattle.problem.proofs.Names.{is_version, versions_by_place}
+use Rattle.problem.proofs.Walks.{some_from_any}
 use Rattle.problem.proofs.counts.has_version.Goals as goal
 
-pub returns-then-is_version : goal.returns-then-is_version
-returns-then-is_version c =
-    sym (version_step c.args.text.now c.args.set.now c.args.mark c.args.name.now c.args.packages.now c.loop-i.i no_package _ _ c.loop-i-test.true c.is_chosen.ensures c.if-is_version.ensures) ∙ c.loop-i.invariant
-
-pub loop-i-preserved : goal.loop-i-preserved
-loop-i-preserved c =
-    sym (version_step c.args.text.now c.args.set.now c.args.mark c.args.name.now c.args.packages.now c.loop-i.i no_package _ _ c.loop-i-test.true c.is_chosen.ensures c.if-is_version.ensures) ∙ c.loop-i.invariant
-
 pub returns : goal.returns
-returns c = sym (version_none c.args.text.now c.args.set.now c.args.mark c.args.name.now c.args.packages.now c.loop-i.i c.loop-i-test.false) ∙ c.loop-i.invariant
+returns g c = λ m h.
+    some_from_any (is_version c.args.stanzas.now.text.now c.args.set.now m c.args.name.now) _ _ _ c.any.ensures.ran (YieldsList-from_enumerate (YieldsList-from_slice c.args.stanzas.now.rows.now (cc)) (cc)) (λ x b q k. search (rules, tests, h))
+    ∙ versions_by_place c.args.stanzas.now.text.now c.args.set.now m c.args.name.now 0 c.args.stanzas.now.rows.now

@@ -1,4 +1,4 @@
-use Rattle.std.proofs.Common.{◌≡◌, length}
+use Rattle.std.proofs.Common.{◌≡◌, length, is_err}
 use Rattle.text.specs.Left.{left}
 use Rattle.problem.specs.ConstraintLists.{kept, stored, limit_of}
 use Rattle.problem.specs.Growth.{Grown}
@@ -6,7 +6,7 @@ use Rattle.problem.proofs.lists.read_constraints.Given as goal
 
 abbrev pub invariant-loop-piece : goal.invariant-loop-piece
 invariant-loop-piece l =
-    (stored (limit_of l.initial.out) (kept l.text l.out l.lost) (left l.parts) ≡ stored (limit_of l.initial.out) (kept l.text l.initial.out l.before) (left l.initial.parts))
+    (stored (limit_of l.initial.out) (kept l.text l.out (is_err l.placed)) (left l.parts) ≡ stored (limit_of l.initial.out) (kept l.text l.initial.out (is_err l.fn.before)) (left l.initial.parts))
     × (l.parts.text.now ≡ l.text)
     × Grown l.text l.initial.out l.out
 

@@ -1,21 +1,18 @@
-use Rattle.std.proofs.Common.{◌≡◌, suc, ◌+◌, Some, refl, ap, ◌∙◌, arith}
+use Rattle.std.proofs.Common.{refl, arith, rules, tests}
+use Rattle.problem.specs.Meaning.{problem_of}
 use Rattle.problem.proofs.Agreement.{plans_agree}
-use Rattle.problem.proofs.Checked.{none_failed, one_failed, some_not_none}
+use Rattle.problem.proofs.Checked.{passed_within, checked}
 use Rattle.problem.proofs.Few.{plan_clauses_few}
 use Rattle.problem.proofs.plan_check.check_plan.Goals as goal
 
-pub returns-then-feed_plan_clauses : goal.returns-then-feed_plan_clauses
-returns-then-feed_plan_clauses c =
-    let e = none_failed c.args.set.now _ 1 _ _ refl c.if-feed_plan_clauses.ensures in
-    record { checks = ((plans_agree.none _ _).0 e, e); agree = plans_agree }
-
-pub overflow_add-result : goal.overflow_add-result
-overflow_add-result c =
-    omega (arith, plan_clauses_few c.args.problem.now, (one_failed c.args.set.now _ _ _ refl (omega (arith, plan_clauses_few c.args.problem.now)) c.if-feed_plan_clauses.ensures).1)
+pub map_err-requires : goal.map_err-requires
+map_err-requires c = λ e h _ _ _ _.
+    omega (arith, passed_within (problem_of c.args.problem.now) c.args.set.now (omega (arith, plan_clauses_few c.args.problem.now)) _ c.feed_plan_clauses.new.sink refl refl _ e h c.feed_plan_clauses.ensures)
 
 pub returns : goal.returns
-returns c =
-    let few = plan_clauses_few c.args.problem.now in
-    let n : suc c.feed_plan_clauses.new.sink.passed ≡ c.feed_plan_clauses.new.sink.passed + 1 = omega arith in
-    let e = (one_failed c.args.set.now _ _ _ refl (omega (arith, few)) c.if-feed_plan_clauses.ensures).0 ∙ ap (λ k. Some k) n in
-    record { checks = ((λ p. some_not_none _ _ ((plans_agree.none _ _).1 p) e), e); agree = plans_agree }
+returns c = record {
+  checks =
+      checked (problem_of c.args.problem.now) c.args.set.now (omega (arith, plan_clauses_few c.args.problem.now)) _ c.feed_plan_clauses.new.sink refl refl _ _ _ c.feed_plan_clauses.ensures
+      c.map_err.ensures.cases (λ w n k. search (rules, tests));
+  agree = plans_agree;
+}

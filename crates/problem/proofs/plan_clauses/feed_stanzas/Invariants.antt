@@ -1,6 +1,5 @@
-use Rattle.std.proofs.Common.{◌≡◌, drop}
+use Rattle.std.proofs.Common.{drop}
 use Rattle.text.specs.Lists.{each_all}
-use Rattle.text.specs.Rows.{room}
 use Rattle.problem.specs.Cudf.{stanzas}
 use Rattle.problem.specs.Feeding.{Left}
 use Rattle.problem.specs.Meaning.{problem_of}
@@ -11,4 +10,3 @@ abbrev pub invariant-loop-place : goal.invariant-loop-place
 invariant-loop-place g l =
     Left g.S.ClauseSink.goes g.S.ClauseSink.stops (each_all (of_stanza (problem_of l.problem)) (stanzas (problem_of l.problem))) l.initial.sink
     (each_all (of_stanza (problem_of l.problem)) (drop l.place (stanzas (problem_of l.problem)))) l.sink
-    × (room l.clause ≡ room l.initial.clause)

@@ -7,8 +7,8 @@ pub returns : goal.returns
 returns g c =
     let k = rooms_of c.args.packages.now c.args.constraints.now c.args.table.now c.args.literals.now c.args.hints.now in
     let m = g.B.ClauseBase.meaning c.args.base.now in
-    let m' = g.B.ClauseBase.meaning c.judge_files-judgement.new.base in
-    let w : Comes k c.args.problem.now c.args.answer.now c.args.certificate.now m c.line_of.result m' = (c.judge_files-judgement.result, (c.judge_files-judgement.ensures, c.line_of.ensures)) in
+    let m' = g.B.ClauseBase.meaning c.judge-judgement.new.base in
+    let w : Comes k c.args.problem.now c.args.answer.now c.args.certificate.now m c.line_of.result m' = (c.judge-judgement.result, (c.judge-judgement.ensures, c.line_of.ensures)) in
     record {
       line = w;
       means = means k c.args.problem.now c.args.answer.now c.args.certificate.now m m' c.line_of.result w;

@@ -1,25 +1,17 @@
 use Rattle.std.proofs.Common.{◌≡◌, ◌+◌, arith}
-use Rattle.verdict.proofs.Counting.{row_fits, inputs_left}
-use Rattle.verdict.proofs.VariableRanges.{range-fed, range-left}
+use Rattle.verdict.proofs.Counting.{inputs_left}
+use Rattle.verdict.proofs.VariableRanges.{range_fed, range_left}
 use Rattle.verdict.proofs.counter.feed_counter.Goals as goal
 
 pub loop-place-init : goal.loop-place-init
 loop-place-init g c = inputs_left _ _ c.args.base c.args.limit c.args.first c.args.inputs _
 
-pub feed_input-requires : goal.feed_input-requires
-feed_input-requires g c = record {
-  base = c.requires.base;
-  input = omega arith;
-  small = omega arith;
-  few = row_fits c.args.base c.args.limit c.loop-place.place 1000000 c.args.inputs c.loop-place-test.true c.requires.few;
-}
-
-pub returns-then-not-feed_input : goal.returns-then-not-feed_input
-returns-then-not-feed_input g c =
+pub returns-in_err-feed_input : goal.returns-in_err-feed_input
+returns-in_err-feed_input g c =
     let z : c.loop-place.place ≡ 0 + c.loop-place.place = omega arith in
-    range-left _ _ _ _ _ _ _ 0 c.args.inputs c.loop-place.place c.loop-place.place z c.loop-place-test.true c.loop-place.invariant c.if-not-feed_input.ensures
+    range_left _ _ _ _ _ _ _ 0 c.args.inputs c.loop-place.place c.loop-place.place z _ _ c.from_residual.ensures.0 c.loop-place-test.true c.loop-place.invariant c.in_err-feed_input.ensures
 
 pub loop-place-preserved : goal.loop-place-preserved
 loop-place-preserved g c =
     let z : c.loop-place.place ≡ 0 + c.loop-place.place = omega arith in
-    range-fed _ _ _ _ _ _ _ 0 c.args.inputs c.loop-place.place c.loop-place.place z c.loop-place-test.true c.loop-place.invariant c.if-not-feed_input.ensures
+    range_fed _ _ _ _ _ _ _ 0 c.args.inputs c.loop-place.place c.loop-place.place z c.loop-place-test.true c.loop-place.invariant c.in_ok-feed_input.ensures

@@ -1,33 +1,19 @@
-use Rattle.std.proofs.Common.{◌+◌, ◌*◌, arith, w32, SFits, rules}
+use Rattle.std.proofs.Common.{◌+◌, ◌*◌, w32, SFits, rules}
 use Rattle.text.specs.Literals.{lit, neg}
-use Rattle.verdict.proofs.Counting.{row_more, row_holds, two_held, fed_input, fed_keeping}
+use Rattle.verdict.proofs.Counting.{two_held, fed_input, fed_keeping}
 use Rattle.verdict.proofs.counter.feed_input.Goals as goal
 
-pub overflow_sub-before : goal.overflow_sub-before
-overflow_sub-before g c = omega (arith, row_holds c.args.base c.args.limit c.args.place c.if-place-eq0.false)
-
-pub feed_kept-requires : goal.feed_kept-requires
-feed_kept-requires g c =
-    let h = row_holds c.args.base c.args.limit c.args.place c.if-place-eq0.false in
-    let m = row_more c.args.base c.args.limit c.args.place in
-    record { before = omega (arith, h, m); order = omega (arith, h, m); few = omega (arith, h, m) }
-
-pub feed_raised-requires : goal.feed_raised-requires
-feed_raised-requires g c =
-    let h = row_holds c.args.base c.args.limit c.args.place c.if-place-eq0.false in
-    let m = row_more c.args.base c.args.limit c.args.place in
-    record { input = c.requires.input; small = c.requires.small; before = omega (arith, h, m); order = omega (arith, h, m); few = omega (arith, h, m) }
-
-pub returns-then-feed_kept : goal.returns-then-feed_kept
-returns-then-feed_kept g c =
+pub returns-in_err-feed_kept : goal.returns-in_err-feed_kept
+returns-in_err-feed_kept g c =
     let x : SFits w32 c.no.result = search rules in
     let y : SFits w32 c.yes.result = search rules in
-    let e = two_held _ _ (neg c.args.input) (lit (c.args.base + c.args.place * c.args.limit)) x y c.no.ensures c.yes.ensures in
-    fed_input _ _ c.args.base c.args.limit c.args.place (neg c.args.input) c.if-limit-eq0.false c.if-place-eq0.false _ e _ _ _ _ _ c.if-not-take.ensures c.if-feed_kept.ensures c.feed_raised.ensures
+    let e = two_held _ _ (neg c.args.input.number) (lit (c.args.base + c.args.place * c.args.limit)) x y c.no.ensures c.yes.ensures in
+    fed_keeping _ _ c.args.base c.args.limit c.args.place (neg c.args.input.number) c.if-limit-eq0.false c.if-place-eq0.false _ e _ _ _ _ _ c.from_residual-in_err-feed_kept.ensures.0 c.in_ok-take.ensures
+    c.in_err-feed_kept.ensures
 
-pub returns-else-feed_kept : goal.returns-else-feed_kept
-returns-else-feed_kept g c =
+pub returns : goal.returns
+returns g c =
     let x : SFits w32 c.no.result = search rules in
     let y : SFits w32 c.yes.result = search rules in
-    let e = two_held _ _ (neg c.args.input) (lit (c.args.base + c.args.place * c.args.limit)) x y c.no.ensures c.yes.ensures in
-    fed_keeping _ _ c.args.base c.args.limit c.args.place (neg c.args.input) c.if-limit-eq0.false c.if-place-eq0.false _ e _ _ _ _ c.if-feed_kept.false c.if-not-take.ensures c.feed_kept.ensures
+    let e = two_held _ _ (neg c.args.input.number) (lit (c.args.base + c.args.place * c.args.limit)) x y c.no.ensures c.yes.ensures in
+    fed_input _ _ c.args.base c.args.limit c.args.place (neg c.args.input.number) c.if-limit-eq0.false c.if-place-eq0.false _ e _ _ _ _ _ c.in_ok-take.ensures c.in_ok-feed_kept.ensures c.feed_raised.ensures

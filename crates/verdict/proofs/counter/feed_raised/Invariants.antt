@@ -6,5 +6,5 @@ use Rattle.verdict.proofs.counter.feed_raised.Given as goal
 
 abbrev pub invariant-loop-j : goal.invariant-loop-j
 invariant-loop-j g l =
-    Left g.S.ClauseSink.goes g.S.ClauseSink.stops (each (λ j. neg l.input ∷ neg (l.before + (j - 1)) ∷ lit (l.row + (suc j - 1)) ∷ []) (up_from 1 l.limit)) l.initial.sink
-    (each (λ j. neg l.input ∷ neg (l.before + (j - 1)) ∷ lit (l.row + (suc j - 1)) ∷ []) (up_from (1 + l.j) (l.limit - l.j))) l.sink
+    Left g.S.ClauseSink.goes g.S.ClauseSink.stops (each (λ j. neg l.input.number ∷ neg (l.before + (j - 1)) ∷ lit (l.row + (suc j - 1)) ∷ []) (up_from 1 l.limit)) l.initial.sink
+    (each (λ j. neg l.input.number ∷ neg (l.before + (j - 1)) ∷ lit (l.row + (suc j - 1)) ∷ []) (up_from (1 + l.j) (l.limit - l.j))) l.sink

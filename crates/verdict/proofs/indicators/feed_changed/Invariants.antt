@@ -5,5 +5,5 @@ use Rattle.verdict.proofs.indicators.feed_changed.Given as goal
 
 abbrev pub invariant-loop-i : goal.invariant-loop-i
 invariant-loop-i g l =
-    Left g.S.ClauseSink.goes g.S.ClauseSink.stops (changed_rows l.text l.name l.variable 0 l.packages) l.initial.sink
-    (changed_rows l.text l.name l.variable l.i (drop l.i l.packages)) l.sink
+    Left g.S.ClauseSink.goes g.S.ClauseSink.stops (changed_rows l.stanzas.text.now l.name l.changed.number 0 l.stanzas.rows.now) l.initial.sink
+    (changed_rows l.stanzas.text.now l.name l.changed.number l.i (drop l.i l.stanzas.rows.now)) l.sink

@@ -9,6 +9,6 @@ use Rattle.verdict.proofs.indicators.write_versions.Given as goal
 
 abbrev pub invariant-loop-i : goal.invariant-loop-i
 invariant-loop-i l =
-    (items l.clause ++ each lit (passing (λ p. bytes_eq l.name (word_in l.text p.name)) (0 + l.i) (drop l.i l.packages)) ≡
-    items l.initial.clause ++ each lit (passing (λ p. bytes_eq l.name (word_in l.text p.name)) 0 l.packages))
+    (items l.clause ++ each lit (passing (λ p. bytes_eq l.name (word_in l.stanzas.text.now p.name)) (0 + l.i) (drop l.i l.stanzas.rows.now)) ≡
+    items l.initial.clause ++ each lit (passing (λ p. bytes_eq l.name (word_in l.stanzas.text.now p.name)) 0 l.stanzas.rows.now))
     × (length (items l.clause) ≤ length (items l.initial.clause) + l.i) × (room l.clause ≡ room l.initial.clause)

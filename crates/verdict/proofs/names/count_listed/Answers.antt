@@ -1,32 +1,15 @@
-use Rattle.std.proofs.Common.{◌≡◌, ℕ, suc, ◌+◌, length, ap, arith}
-use Rattle.verdict.proofs.Listed.{listed_more, listed_same, listed_none}
+use Rattle.std.proofs.Common.{◌∙◌, rules, tests}
+use Rattle.std.proofs.lemmas.Iterator.{YieldsList-from_slice}
+use Rattle.std.proofs.lemmas.Iterator.Consumers.{YieldsList-from_enumerate, YieldsList-from_filter, count_from_yields_List}
+use Rattle.problem.proofs.Names.{is_first}
+use Rattle.verdict.specs.Indicators.{listed}
+use Rattle.verdict.proofs.Listed.{listed_count}
 use Rattle.verdict.proofs.names.count_listed.Goals as goal
-use Rattle.verdict.proofs.names.count_listed.Goals.{then-is_listed, else-is_listed}
 
-one_more : (n n' left left' whole : ℕ) → n' ≡ n + 1 → left ≡ suc left' → n + left ≡ whole → n' + left' ≡ whole
-one_more n n' left left' whole e f h = omega arith
-
-no_more : (n n' left left' whole : ℕ) → n' ≡ n → left ≡ left' → n + left ≡ whole → n' + left' ≡ whole
-no_more n n' left left' whole e f h = omega arith
-
-all_counted : (n left whole : ℕ) → left ≡ 0 → n + left ≡ whole → n ≡ whole
-all_counted n left whole e h = omega arith
-
-pub loop-place-preserved : goal.loop-place-preserved
-loop-place-preserved c =
-    elim c.if-is_listed.branch [
-      | then-is_listed w ↦ (
-        one_more c.loop-place.count _ _ _ _ w.count-is (ap length (listed_more c.args.indicator c.args.text.now c.args.packages.now c.loop-place.place c.loop-place-test.true w.if-is_listed.ensures)) c.loop-place.invariant.0,
-        omega (arith, w.count-is, c.loop-place.invariant.1),
-      )
-      | else-is_listed w ↦ (
-        no_more c.loop-place.count _ _ _ _ w.count-is (ap length (listed_same c.args.indicator c.args.text.now c.args.packages.now c.loop-place.place c.loop-place-test.true w.if-is_listed.ensures)) c.loop-place.invariant.0,
-        omega (arith, w.count-is, c.loop-place.invariant.1),
-      )
-    ]
-
-pub returns : goal.returns
-returns c = record {
-  count = all_counted _ _ _ (ap length (listed_none c.args.indicator c.args.text.now c.args.packages.now c.loop-place.place c.loop-place-test.false)) c.loop-place.invariant.0;
-  few = omega (arith, c.loop-place.invariant.1, c.loop-place.auto.place-end);
-}
+pub returns-clause-count : goal.returns-clause-count
+returns-clause-count c =
+    let text = c.args.stanzas.now.text.now in
+    let ps = c.args.stanzas.now.rows.now in
+    count_from_yields_List c.filter.result _ c.count.ensures.ran
+    (YieldsList-from_filter _ (is_first text (listed c.args.indicator text ps) ps) (YieldsList-from_enumerate (YieldsList-from_slice ps (cc)) (cc)) c.filter.ensures.closure (λ x b q k. (search (rules, tests), search (rules, tests))))
+    ∙ listed_count c.args.indicator text ps

@@ -1,19 +1,10 @@
-use Rattle.std.proofs.Common.{◌+◌, rules}
+use Rattle.std.proofs.Common.{◌+◌}
 use Rattle.certificate.specs.HintedState.{step_of, hinted_rest}
 use Rattle.certificate.specs.Hinted.{records}
 use Rattle.certificate.specs.Reading.{memory_of}
-use Rattle.certificate.specs.Stream.{broken}
-use Rattle.certificate.proofs.Answering.{reads_ended, reads_step, reads_over}
-use Rattle.certificate.proofs.Unread.{records_past, records_first}
+use Rattle.certificate.proofs.Answering.{reads_step, reads_over}
+use Rattle.certificate.proofs.Unread.{records_first}
 use Rattle.certificate.proofs.hinted.HintedSourceSource.read.Goals as goal
-
-pub returns-then-self-ge-PLACES : goal.returns-then-self-ge-PLACES
-returns-then-self-ge-PLACES c =
-    let s = c.args.self.now in
-    let e = records_past s.stated s.number s.rest.now (search rules) c.if-self-ge-PLACES.true in
-    let b = c.blank-then-self-ge-PLACES in
-    let h = reads_ended (memory_of c.args.literals.now c.args.hints.now) (hinted_rest s) (broken 4294967295) b.new.literals b.new.hints e b.ensures in
-    record { memory = h.0; reads = h.1 }
 
 pub returns-in-Some-put_step : goal.returns-in-Some-put_step
 returns-in-Some-put_step c =

@@ -1,18 +1,12 @@
 use Rattle.std.proofs.Common.{◌+◌, rules}
 use Rattle.certificate.specs.TextState.{text_rest}
 use Rattle.certificate.specs.Reading.{memory_of}
-use Rattle.certificate.specs.Stream.{finished, broken}
+use Rattle.certificate.specs.Stream.{broken}
 use Rattle.certificate.proofs.Answering.{reads_ended}
-use Rattle.certificate.proofs.LineEnds.{lines_none, lines_past, lines_open}
+use Rattle.certificate.proofs.LineEnds.{lines_past, lines_open}
 use Rattle.certificate.proofs.LineReads.{line_read, line_passed, line_refused_at}
+use Rattle.certificate.proofs.textual.TextSourceSource.read.Goals.{in-Err-TooMany, in-Ok}
 use Rattle.certificate.proofs.textual.TextSourceSource.read.Goals as goal
-
-pub returns-then-is_empty : goal.returns-then-is_empty
-returns-then-is_empty c =
-    let s = c.args.self.now in
-    let e = lines_none s.number s.rest.now (search rules) in
-    let h = reads_ended (memory_of c.args.literals.now c.args.hints.now) (text_rest s) finished c.blank.new.literals c.blank.new.hints e c.blank.ensures in
-    record { memory = h.0; reads = h.1 }
 
 pub returns-then-self-ge-PLACES : goal.returns-then-self-ge-PLACES
 returns-then-self-ge-PLACES c =
@@ -22,28 +16,33 @@ returns-then-self-ge-PLACES c =
     let h = reads_ended (memory_of c.args.literals.now c.args.hints.now) (text_rest s) (broken 4294967295) b.new.literals b.new.hints e b.ensures in
     record { memory = h.0; reads = h.1 }
 
-pub returns-then-n-bytes : goal.returns-then-n-bytes
-returns-then-n-bytes c =
+pub returns-in_default : goal.returns-in_default
+returns-in_default c =
     let s = c.args.self.now in
-    let e = lines_open s.number c.index_of-n.result s.rest.now c.if-self-ge-PLACES.false (search rules) c.index_of-n.ensures.value c.if-n-bytes.true in
-    let b = c.blank-then-n-bytes in
+    let e = lines_open s.number s.rest.now c.if-self-ge-PLACES.false (search rules) c.in_default.ensures in
+    let b = c.blank-in_default in
     let h = reads_ended (memory_of c.args.literals.now c.args.hints.now) (text_rest s) (broken (s.number + 1)) b.new.literals b.new.hints e b.ensures in
     record { memory = h.0; reads = h.1 }
 
 pub returns-in-Err-Form : goal.returns-in-Err-Form
 returns-in-Err-Form c =
     let s = c.args.self.now in
-    let h = line_refused_at (memory_of c.args.literals.now c.args.hints.now) s.number c.index_of-n.result s.rest.now c.read_line.new.literals c.read_line.new.hints c.if-self-ge-PLACES.false c.index_of-n.ensures.value c.index_of-n.ensures.within c.if-n-bytes.false (search (rules, c.in-Err-Form.ensures.answer)) c.in-Err-Form.ensures.memory in
+    let h = line_refused_at (memory_of c.args.literals.now c.args.hints.now) s.number c.in-Some.n s.rest.now c.read_line.new.literals c.read_line.new.hints c.if-self-ge-PLACES.false c.in-Some.ensures.0 c.in-Some.ensures.1 (search (rules, c.in-Err-Form.ensures.answer)) c.in-Err-Form.ensures.memory in
     record { memory = h.0; reads = h.1 }
 
-pub returns-in-Err-TooMany : goal.returns-in-Err-TooMany
-returns-in-Err-TooMany c =
+pub returns : goal.returns
+returns c =
     let s = c.args.self.now in
-    let h = line_passed (memory_of c.args.literals.now c.args.hints.now) s.number c.index_of-n.result s.rest.now c.read_line.new.literals c.read_line.new.hints c.if-self-ge-PLACES.false c.index_of-n.ensures.value c.index_of-n.ensures.within c.if-n-bytes.false (search (rules, c.in-Err-TooMany.ensures.answer)) c.in-Err-TooMany.ensures.memory in
-    record { memory = h.0; reads = h.1 }
-
-pub returns-in-Ok : goal.returns-in-Ok
-returns-in-Ok c =
-    let s = c.args.self.now in
-    let h = line_read (memory_of c.args.literals.now c.args.hints.now) s.number c.index_of-n.result s.rest.now c.in-Ok.shape c.read_line.new.literals c.read_line.new.hints c.if-self-ge-PLACES.false c.index_of-n.ensures.value c.index_of-n.ensures.within c.if-n-bytes.false c.in-Ok.ensures.answer c.in-Ok.ensures.memory in
-    record { memory = h.0; reads = h.1 }
+    let k = memory_of c.args.literals.now c.args.hints.now in
+    let ls = c.read_line.new.literals in
+    let hs = c.read_line.new.hints in
+    elim c.match-read_line.branch [
+      | in-Err-TooMany w ↦
+          let a = w.in-Err-TooMany.ensures in
+          let h = line_passed k s.number c.in-Some.n s.rest.now ls hs c.if-self-ge-PLACES.false c.in-Some.ensures.0 c.in-Some.ensures.1 (search (rules, a.answer)) a.memory in
+          record { memory = h.0; reads = rw w.read-is h.1 }
+      | in-Ok w ↦
+          let a = w.in-Ok.ensures in
+          let h = line_read k s.number c.in-Some.n s.rest.now w.in-Ok.shape ls hs c.if-self-ge-PLACES.false c.in-Some.ensures.0 c.in-Some.ensures.1 a.answer a.memory in
+          record { memory = h.0; reads = rw w.read-is h.1 }
+    ]

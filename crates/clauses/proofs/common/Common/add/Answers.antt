@@ -1,17 +1,8 @@
-use Rattle.std.proofs.Common.{sym, refl, arith}
+use Rattle.std.proofs.Common.{sym}
 use Rattle.text.proofs.Members.{holds_from}
 use Rattle.clauses.proofs.Forms.{formed_speaks}
 use Rattle.clauses.proofs.common.Common.add.Goals as goal
 
-pub push-requires : goal.push-requires
-push-requires c =
-    let e = c.if-not-make_room.ensures in
-    let b = e.behind refl in
-    record {
-      sound = e.sound;
-      row = b.0;
-      literals = b.1;
-      small = omega (arith, b.1, e.kept.literals, c.requires.small);
-      number = omega (arith, e.next);
-      speaks = rw e.kept.variables (formed_speaks c.args.self.now.store.variables c.args.clause.now (holds_from (sym c.if-not-well_formed.ensures)));
-    }
+pub push-requires-clause-speaks : goal.push-requires-clause-speaks
+push-requires-clause-speaks c =
+    rw c.if-not-make_room.ensures.kept.variables (formed_speaks c.args.self.now.store.variables c.args.clause.now (holds_from (sym c.if-not-well_formed.ensures)))

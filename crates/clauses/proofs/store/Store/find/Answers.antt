@@ -1,14 +1,18 @@
-use Rattle.std.proofs.Common.{arith}
-use Rattle.clauses.proofs.Finds.{none_found}
+use Rattle.std.proofs.Common.{sym, ◌∙◌, arith}
+use Rattle.std.proofs.lemmas.Bool.{eqb-true}
+use Rattle.clauses.proofs.Finds.{none_found, found_here}
 use Rattle.clauses.proofs.store.Store.find.Goals as goal
-use Rattle.clauses.proofs.store.Store.find.Goals.{else-row-number-via-then-row-number+else-row, else-row-number-via-else-row-number}
+use Rattle.clauses.proofs.store.Store.find.Goals.{then-row-number, else-row-number}
 
 pub returns-then-k-self : goal.returns-then-k-self
 returns-then-k-self c =
     let e = c.lower-k.ensures in
-    none_found c.args.self.now c.args.number c.lower-k.result c.requires e.below e.above (λ lt q. absurd (omega arith))
+    none_found c.args.self.now c.args.number c.lower-k.result e.below e.above (λ lt q. absurd (omega arith))
 
-pub returns-else-row-number : goal.returns-else-row-number
-returns-else-row-number c =
+pub returns : goal.returns
+returns c =
     let e = c.lower-k.ensures in
-    elim c.else-row-number.branch [ else-row-number-via-then-row-number+else-row w ↦ none_found c.args.self.now c.args.number c.lower-k.result c.requires e.below e.above (λ lt q. w.if-row.false) | else-row-number-via-else-row-number w ↦ none_found c.args.self.now c.args.number c.lower-k.result c.requires e.below e.above (λ lt q. absurd (w.if-row-number.false q)) ]
+    found_here c.args.self.now c.args.number c.lower-k.result c.if-row-number.then_some c.then_some.result e.below e.above c.if-k-self.false
+    (elim c.if-row-number.branch [ then-row-number w ↦ λ q. (w.if-row-number.true, sym w.then_some-is ∙ q) | else-row-number w ↦ λ q. absurd (w.if-row-number.false (eqb-true _ _ (sym w.then_some-is ∙ q))) ])
+    (elim c.if-row-number.branch [ then-row-number w ↦ λ q _. sym w.then_some-is ∙ q | else-row-number w ↦ λ q d. absurd (w.if-row-number.false d) ])
+    c.then_some.ensures

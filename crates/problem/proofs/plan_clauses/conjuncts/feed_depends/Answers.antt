@@ -1,27 +1,20 @@
-use Rattle.std.proofs.Common.{ap, ◌∙◌}
-use Rattle.std.proofs.lemmas.List.{take_rest}
-use Rattle.problem.specs.Stanzas.{conjunct_len}
-use Rattle.problem.proofs.Conjuncts.{first_left, conjuncts-more, conjuncts-stop, conjuncts_all}
+use Rattle.std.proofs.Common.{rules, tests}
+use Rattle.std.specs.Slice.Iter.{split_inclusive_rest}
+use Rattle.std.proofs.lemmas.List.Sorted.{answers_always}
+use Rattle.problem.proofs.Feeds.{next_more, next_stop}
+use Rattle.problem.proofs.Conjuncts.{conjuncts_next}
 use Rattle.problem.proofs.plan_clauses.conjuncts.feed_depends.Goals as goal
 
-pub returns-then-not-feed_conjunct : goal.returns-then-not-feed_conjunct
-returns-then-not-feed_conjunct g c = record {
-  fed = conjuncts-stop _ _ _ _ _ _ _ c.args.depends.now _ c.loop-start.start _ c.loop-start-test.true
-      (c.conjunct_len-len.ensures.value ∙ ap conjunct_len (take_rest c.args.depends.now c.loop-start.start))
-      (first_left c.args.depends.now c.loop-start.start _) c.loop-start.invariant.0 c.if-not-feed_conjunct.ensures.fed;
-  room = c.feed_conjunct.ensures.room ∙ c.loop-start.invariant.1;
-}
+pub returns-in_err-feed_conjunct : goal.returns-in_err-feed_conjunct
+returns-in_err-feed_conjunct g c =
+    let s = c.in-Some.ensures.steps in
+    let w = s.1.2 (λ r. r.last) (answers_always _ _ _ (λ f a r f' k. search (rules, tests))) in
+    next_stop _ _ _ _ _ _ _ _ _ _ (conjuncts_next _ _ (split_inclusive_rest c.next.new.self) s.1.0 s.0 s.1.1 w.1 c.loop-group.rest.now c.split_inclusive.ensures.rest s.2) c.loop-group.invariant _ _
+    c.from_residual.ensures.0 c.in_err-feed_conjunct.ensures
 
-pub loop-start-preserved : goal.loop-start-preserved
-loop-start-preserved g c = (
-  conjuncts-more _ _ _ _ _ _ _ c.args.depends.now _ c.loop-start.start _ c.loop-start-test.true
-      (c.conjunct_len-len.ensures.value ∙ ap conjunct_len (take_rest c.args.depends.now c.loop-start.start))
-      (first_left c.args.depends.now c.loop-start.start _) c.loop-start.invariant.0 c.if-not-feed_conjunct.ensures.fed,
-  c.feed_conjunct.ensures.room ∙ c.loop-start.invariant.1,
-)
-
-pub returns : goal.returns
-returns g c = record {
-  fed = conjuncts_all _ _ _ _ _ _ c.args.depends.now c.loop-start.start c.loop-start-test.false c.loop-start.invariant.0;
-  room = c.loop-start.invariant.1;
-}
+pub loop-group-preserved : goal.loop-group-preserved
+loop-group-preserved g c =
+    let s = c.in-Some.ensures.steps in
+    let w = s.1.2 (λ r. r.last) (answers_always _ _ _ (λ f a r f' k. search (rules, tests))) in
+    next_more _ _ _ _ _ _ _ _ _ _ (conjuncts_next _ _ (split_inclusive_rest c.next.new.self) s.1.0 s.0 s.1.1 w.1 c.loop-group.rest.now c.split_inclusive.ensures.rest s.2) c.loop-group.invariant
+    c.in_ok-feed_conjunct.ensures

@@ -1,6 +1,0 @@
-use Rattle.clauses.proofs.Guarding.{Begun}
-use Rattle.clauses.proofs.watches.start.Given as goal
-
-abbrev pub invariant-loop-k : goal.invariant-loop-k
-invariant-loop-k l =
-    Begun l.store l.initial.index l.index l.places l.initial.values l.values l.initial.trail l.trail l.k

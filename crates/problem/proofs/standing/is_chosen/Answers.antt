@@ -1,6 +1,0 @@
-use Rattle.std.proofs.Common.{rules}
-use Rattle.std.proofs.lemmas.List.{get_or_past}
-use Rattle.problem.proofs.standing.is_chosen.Goals as goal
-
-pub returns-in-None : goal.returns-in-None
-returns-in-None c = search (rules, get_or_past)
