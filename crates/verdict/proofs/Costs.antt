@@ -1,5 +1,5 @@
 -- A set removes and changes no more names than there are stanzas.
-use Rattle.std.proofs.Common.{◌≡◌, ℕ, suc, ◌≤◌, Bool, true, false, cond, List, [], ◌∷◌, length, arith}
+use Rattle.std.proofs.Common.{ℕ, suc, ◌≤◌, Bool, true, false, cond, List, [], ◌∷◌, length, arith}
 use Rattle.std.proofs.lemmas.List.{length-map, length-take-le}
 use Rattle.problem.specs.Cudf.{Package, Chosen, names, names_from, seen_in, is_removed, is_changed, removed_count, changed_count}
 use Rattle.problem.specs.Meaning.{package_of, packages_in, constraints_in, problem_of}
