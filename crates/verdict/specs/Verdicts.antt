@@ -6,7 +6,7 @@
 -- OnPlan, OnAnswer, OnProblem, OnFiles: what follows on the plan check, the answer, the problem, the lengths
 -- Judged: the line, or the first fault: file lengths, problem, answer, plan check, opening, steps; and the base after it
 -- line_of, Comes: the line that is printed
--- ReadAs, Means: what it says in the subject's words
+-- ReadAs, PlanWith, Means: what it says in the subject's words
 -- Completes: a good certificate has its line
 use Rattle.std.specs.Prelude.{◌≡◌, ℕ, cond, T, List, [], ◌∷◌, length, ℤ, Some, None, Ok, Err, Option, Result, nat_le}
 use Rattle.certificate.specs.Form.{certificate}

@@ -164,8 +164,8 @@ fn line_of(judgement: Result<Line, VerdictFault>) -> Line
     }
 }
 
-/// The line that three files come to. The memory is then all zero, and the base holds what a session left, if one was
-/// opened.
+/// The line that three files come to. The memory is then all zero, and the base is as a session left it, if there was
+/// one.
 pub fn check<B: ClauseBase>(
     problem: &[u8],
     answer: &[u8],
