@@ -2,13 +2,13 @@
 #![tactic(auto)]
 
 use anyhow::anyhow;
-use problem::rows::{NO_CONSTRAINT, NO_PACKAGE};
-use problem::standing::Standing;
-use problem::view::{CONSTRAINTS_MOST, PACKAGES_MOST};
+use memory::Memory;
 use std::io::{Read, Write};
 use std::{fs, io};
-use verdict::check::{FILE_MOST, check};
+use verdict::check::FILE_MOST;
 use verdict::line::{Line, write_line};
+
+mod memory;
 
 /// Room for the longest line.
 const LINE_MOST: usize = 64;
@@ -41,22 +41,8 @@ fn run(rt: &HostRuntime) -> anyhow::Result<()> {
     let problem = read_file(rt, "problem")?;
     let answer = read_file(rt, "answer")?;
     let certificate = read_file(rt, "certificate")?;
-    let heap = rt.alloc();
-    let mut packages = vec![in heap; NO_PACKAGE; PACKAGES_MOST]?;
-    let mut constraints = vec![in heap; NO_CONSTRAINT; CONSTRAINTS_MOST]?;
-    let mut table = vec![in heap; Standing::Unnamed; PACKAGES_MOST]?;
-    let line = check(
-        &problem,
-        &answer,
-        &certificate,
-        &mut packages,
-        &mut constraints,
-        &mut table,
-    );
-    match line {
-        Some(line) => print_line(rt, line),
-        None => Err(anyhow!("certificates cannot be checked yet")),
-    }
+    let mut memory = Memory::new(rt.alloc())?;
+    print_line(rt, memory.line(&problem, &answer, &certificate))
 }
 
 fn main(rt: HostRuntime) -> anyhow::Result<()> {

@@ -13,7 +13,7 @@ use Rattle.certificate.specs.Stream.{Stream}
 use Rattle.certificate.specs.Reading.{Memory}
 use Rattle.verdict.specs.Session.{Run, Answer, fail, set, opens, opening_fits, desk_on, IsPlanOrFail}
 use Rattle.verdict.specs.Law.{Means, verdict_of, up_to_empty}
-use Rattle.verdict.specs.Opened.{desk_of, plan_fault, claim_of, verdict_for, closing, Opens, Concludes, TrueVerdict, Complete}
+use Rattle.verdict.specs.Opened.{desk_of, plan_fault, claim_of, verdict_for, closing, Opens, OnlyRefused, Concludes, TrueVerdict, Complete}
 use Rattle.problem.proofs.Agreement.{plans_agree}
 use Rattle.verdict.proofs.Law.{law}
 
@@ -29,13 +29,26 @@ pub same_verdict : (q : Problem) (a : Answer) → verdict_for (claim_of q a) ≡
 same_verdict q fail = refl
 same_verdict q (set s) = refl
 
-module _ (q : Problem) (a : Answer) (k k' : Memory) (m m₁ m' : Meaning) (s s' : Stream) (o o' : Open) (rs : List Reply)
-    (opened : Opens m q a (Ok o) m₁) (same : k' ≡ k) (ran : Run k' (desk_of o m₁ s) rs (desk_of o' m' s')) where
+pub only_refused : (q : Problem) (a : Answer) (m m' : Meaning) (r : Result Open OpenFault) → Opens m q a r m' → OnlyRefused m q a r
+only_refused q a m m' (Ok o) h = tt
+only_refused q a m m' (Err InTrial) h = λ i p. absurd (h.0 i)
+only_refused q a m m' (Err (NotPlan n)) h = λ i p. absurd (subst there (sym (no_fault q a p) ∙ h.1) tt)
+  where
+    there : Option ℕ → Type 0
+    there None = Unit {0}
+    there (Some x) = ⊥
+only_refused q a m m' (Err NoRoom) h = λ i p. h.2
+
+-- a plan, or no set at all, opens where there is room and no trial
+pub not_opened : (q : Problem) (a : Answer) (m m' : Meaning) (f : OpenFault) → Opens m q a (Err f) m' → m.trial ≡ idle → IsPlanOrFail q a → T (opening_fits m q a) → ⊥
+not_opened q a m m' f o i p t = T_not (opening_fits m q a) (only_refused q a m m' (Err f) o i p) t
+
+module _ (q : Problem) (a : Answer) (k : Memory) (m m₁ m' : Meaning) (s s' : Stream) (o o' : Open) (rs : List Reply)
+    (opened : Opens m q a (Ok o) m₁) (ran : Run k (desk_of o m₁ s) rs (desk_of o' m' s')) where
   run : Run k (desk_on (opens m q a) s) rs (desk_of o' m' s')
   run =
-      subst (λ y. Run y (desk_on (opens m q a) s) rs (desk_of o' m' s')) same
-      (subst (λ y. Run k' (desk_of y (opens m q a) s) rs (desk_of o' m' s')) opened.4
-      (subst (λ y. Run k' (desk_of o y s) rs (desk_of o' m' s')) opened.3 ran))
+      subst (λ y. Run k (desk_of y (opens m q a) s) rs (desk_of o' m' s')) opened.4
+      (subst (λ y. Run k (desk_of o y s) rs (desk_of o' m' s')) opened.3 ran)
 
   pub concludes : (rs₀ : List Reply) (r : Result Verdict SessionFault) → o'.claim ≡ o.claim → r ≡ closing o' → Concludes q a k m s rs₀ r rs m' s'
   concludes rs₀ r kept e = subst (λ y. Concludes q a k m s rs₀ y rs m' s') (sym e) (pick o'.emptied refl)
@@ -43,16 +56,6 @@ module _ (q : Problem) (a : Answer) (k k' : Memory) (m m₁ m' : Meaning) (s s' 
       pick : (b : Bool) → o'.emptied ≡ b → Concludes q a k m s rs₀ (cond b (Ok (verdict_for o'.claim)) (Err (Unclosed (suc o'.last)))) rs m' s'
       pick true t = (desk_of o' m' s', (opened.0, opened.1, opened.2, run, refl, refl, subst T (sym t) tt, ap verdict_for (kept ∙ ap (λ y. y.claim) opened.4) ∙ same_verdict q a))
       pick false t = (desk_of o' m' s', (opened.0, opened.1, opened.2, run, refl, refl, subst (λ y. T (not y)) (sym t) tt, refl))
-
--- a plan, or no set at all, opens where there is room and no trial
-pub not_opened : (q : Problem) (a : Answer) (m m' : Meaning) (f : OpenFault) → Opens m q a (Err f) m' → m.trial ≡ idle → IsPlanOrFail q a → T (opening_fits m q a) → ⊥
-not_opened q a m m' InTrial o i p t = o.0 i
-not_opened q a m m' (NotPlan n) o i p t = subst there (sym (no_fault q a p) ∙ o.1) tt
-  where
-    there : Option ℕ → Type 0
-    there None = Unit {0}
-    there (Some x) = ⊥
-not_opened q a m m' NoRoom o i p t = T_not (opening_fits m q a) o.2 t
 
 -- what a whole run comes to, by the law
 module _ (q : Problem) (a : Answer) (k : Memory) (m m' : Meaning) (s s' : Stream) (rs rs' : List Reply) where

@@ -8,7 +8,7 @@ use Rattle.verdict.specs.Finding.{Asked as WasAsked, in_run, ending, Finds, Foun
 use Rattle.verdict.specs.Law.{Means}
 use Rattle.verdict.specs.Onward.{Stops, OnAfter, Onward}
 use Rattle.verdict.specs.Opened.{desk_of, Opens, verdict_for}
-use Rattle.verdict.specs.Session.{Desk, AskedOf, Asked, Answer, opens, desk_on}
+use Rattle.verdict.specs.Session.{Desk, AskedOf, Asked, Answer, opens}
 use Rattle.verdict.specs.declared.outcome.RunFault.{RunFault}
 use Rattle.verdict.specs.declared.outcome.RunFault.TheVariants.{Session, Step}
 use Rattle.verdict.specs.declared.outcome.SessionFault.TheVariants.{Opening, Unclosed}
@@ -38,20 +38,18 @@ ends_open zero k d d' x = pick d.emptied refl x
     pick false e x = ap (λ y. y.emptied) (still_asked k d d' d.source.steps d.source.ending x.1) ∙ e
 ends_open (suc n) k d d' x = ends_open n k x.0 d' x.1.2
 
-module _ (q : Problem) (a : Answer) (k k' : Memory) (m m₁ m' : Meaning) (s s' : Stream) (o o' : Open) (opened : Opens m q a (Ok o) m₁) (same : k' ≡ k) (kept : o'.claim ≡ o.claim) where
-  was_asked : (r : Reply) → Onward k' (desk_of o m₁ s) r (desk_of o' m' s') → WasAsked q a k m s r (desk_of o' m' s') m' s'
+module _ (q : Problem) (a : Answer) (k : Memory) (m m₁ m' : Meaning) (s s' : Stream) (o o' : Open) (opened : Opens m q a (Ok o) m₁) (kept : o'.claim ≡ o.claim) where
+  was_asked : (r : Reply) → Onward k (desk_of o m₁ s) r (desk_of o' m' s') → WasAsked q a k m s r (desk_of o' m' s') m' s'
   was_asked r w = record {
     untried = opened.0;
     plan = opened.1;
     fits = opened.2;
-    onward = subst (λ y. Onward y (desk_on (opens m q a) s) r (desk_of o' m' s')) same
-        (subst (λ y. Onward k' (desk_of y (opens m q a) s) r (desk_of o' m' s')) opened.4
-        (subst (λ y. Onward k' (desk_of o y s) r (desk_of o' m' s')) opened.3 w));
+    onward = subst (λ y. Onward k (desk_of y (opens m q a) s) r (desk_of o' m' s')) opened.4 (subst (λ y. Onward k (desk_of o y s) r (desk_of o' m' s')) opened.3 w);
     base = refl;
     source = refl;
   }
 
-  pub finds : (r : Reply) (v : Result Verdict RunFault) → Onward k' (desk_of o m₁ s) r (desk_of o' m' s') → v ≡ ending o' r → Finds q a k m s v m' s'
+  pub finds : (r : Reply) (v : Result Verdict RunFault) → Onward k (desk_of o m₁ s) r (desk_of o' m' s') → v ≡ ending o' r → Finds q a k m s v m' s'
   finds r v w e = subst (λ y. Finds q a k m s y m' s') (sym e) (found_at r w)
     where
       emptied : (b : Bool) → T b → in_run (cond b (Ok (verdict_for o'.claim)) (Err (Unclosed (suc o'.last)))) ≡ Ok (verdict_for o'.claim)
@@ -62,13 +60,13 @@ module _ (q : Problem) (a : Answer) (k k' : Memory) (m m₁ m' : Meaning) (s s' 
       still_open true t = absurd (subst T t tt)
       still_open false t = refl
 
-      found_at : (r : Reply) → Onward k' (desk_of o m₁ s) r (desk_of o' m' s') → Finds q a k m s (ending o' r) m' s'
+      found_at : (r : Reply) → Onward k (desk_of o m₁ s) r (desk_of o' m' s') → Finds q a k m s (ending o' r) m' s'
       found_at (Refused f p) w = (desk_of o' m' s', was_asked (Refused f p) w)
       found_at Taken w =
-          subst (λ y. Finds q a k m s y m' s') (sym (emptied o'.emptied (ends_emptied w.accepted k' (desk_of o m₁ s) (desk_of o' m' s') w.asked)))
+          subst (λ y. Finds q a k m s y m' s') (sym (emptied o'.emptied (ends_emptied w.accepted k (desk_of o m₁ s) (desk_of o' m' s') w.asked)))
           (desk_of o' m' s', (was_asked Taken w, ap verdict_for (kept ∙ ap (λ y. y.claim) opened.4) ∙ same_verdict q a))
       found_at Nothing w =
-          subst (λ y. Finds q a k m s y m' s') (sym (still_open o'.emptied (ends_open w.accepted k' (desk_of o m₁ s) (desk_of o' m' s') w.asked)))
+          subst (λ y. Finds q a k m s y m' s') (sym (still_open o'.emptied (ends_open w.accepted k (desk_of o m₁ s) (desk_of o' m' s') w.asked)))
           (desk_of o' m' s', (was_asked Nothing w, refl))
 
 module _ (q : Problem) (a : Answer) (k : Memory) (m m' : Meaning) (s s' : Stream) where

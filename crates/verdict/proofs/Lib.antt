@@ -3,6 +3,7 @@ pub mod Better
 pub mod Changing
 pub mod Complete
 pub mod Concluding
+pub mod Costs
 pub mod Counters
 pub mod Counting
 pub mod Finding

@@ -9,7 +9,7 @@ use Rattle.certificate.specs.Reading.{Memory}
 use Rattle.certificate.specs.Stream.{Stream}
 use Rattle.verdict.specs.Law.{Means, verdict_of, Good}
 use Rattle.verdict.specs.Onward.{Onward}
-use Rattle.verdict.specs.Opened.{plan_fault, Opens, OpeningLeaves, closing}
+use Rattle.verdict.specs.Opened.{plan_fault, Opens, closing}
 use Rattle.verdict.specs.Session.{Desk, Answer, IsPlanOrFail, opens, opening_fits, desk_on}
 use Rattle.verdict.specs.declared.outcome.RunFault.{RunFault}
 use Rattle.verdict.specs.declared.outcome.RunFault.TheVariants.{Session, Step}
@@ -43,12 +43,12 @@ Finds q a k m s (Err (Step f p)) m' s' = (end : Desk) × Asked q a k m s (Refuse
 Finds q a k m s (Err (Session (Unclosed p))) m' s' = (end : Desk) × (Asked q a k m s Nothing end m' s' × (p ≡ suc end.accepted))
 Finds q a k m s (Err (Session (Opening f))) m' s' = Opens m q a (Err f) m' × (s' ≡ s)
 
--- the memory lent: all zero, or what a refused opening leaves
+-- the memory lent: all zero, or as it was where the opening was refused
 abbrev pub FindLeaves : List ℤ → List ℕ → Result Verdict RunFault → List ℤ → List ℕ → Type 0
 FindLeaves ls hs (Ok v) ls' hs' = (ls' ≡ replicate (length ls) (pos 0)) × (hs' ≡ replicate (length hs) 0)
 FindLeaves ls hs (Err (Step f p)) ls' hs' = (ls' ≡ replicate (length ls) (pos 0)) × (hs' ≡ replicate (length hs) 0)
 FindLeaves ls hs (Err (Session (Unclosed p))) ls' hs' = (ls' ≡ replicate (length ls) (pos 0)) × (hs' ≡ replicate (length hs) 0)
-FindLeaves ls hs (Err (Session (Opening f))) ls' hs' = OpeningLeaves ls (Err f) ls' × (hs' ≡ hs)
+FindLeaves ls hs (Err (Session (Opening f))) ls' hs' = (ls' ≡ ls) × (hs' ≡ hs)
 
 abbrev pub FoundTrue : Problem → Answer → Result Verdict RunFault → Type 0
 FoundTrue q a (Ok v) = Means q a v

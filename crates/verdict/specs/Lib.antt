@@ -3,6 +3,7 @@ pub mod Counted
 pub mod Finding
 pub mod Indicators
 pub mod Law
+pub mod Laying
 pub mod Lines
 pub mod Numbers
 pub mod Onward

@@ -6,7 +6,7 @@ use Rattle.std.specs.Prelude.{◌≡◌, ℕ, ◌-◌, ◌<◌, List, [], ◌∷
 use Rattle.verdict.specs.declared.line.File.{File}
 use Rattle.verdict.specs.declared.line.File.TheVariants.{Problem, Answer, Certificate}
 use Rattle.verdict.specs.declared.line.Line.{Line}
-use Rattle.verdict.specs.declared.line.Line.TheVariants.{Plan, Refused}
+use Rattle.verdict.specs.declared.line.Line.TheVariants.{Plan, Optimal, Impossible, Refused}
 
 abbrev pub file_name : File → List ℕ
 file_name Problem = codes "problem"
@@ -21,6 +21,8 @@ pair words a b = words ++ (number_and a 32 ++ number_and b 10)
 
 abbrev pub line_bytes : Line → List ℕ
 line_bytes (Plan k) = pair (codes "PLAN ") k.removed k.changed
+line_bytes (Optimal k) = pair (codes "OPTIMAL ") k.removed k.changed
+line_bytes Impossible = codes "IMPOSSIBLE" ++ 10 ∷ []
 line_bytes (Refused r) = pair (codes "REFUSED " ++ (file_name r.file ++ 32 ∷ [])) r.place r.number
 
 abbrev pub Writes : {F : Type 0} → List ℕ → ℕ → Result ℕ F → List ℕ → Type 0

@@ -1,18 +1,17 @@
 -- An open session in plain numbers: how it is opened, closed, and what a whole run of it comes to.
--- desk_of: a session with what its base and its source mean; plan_fault: the first plan clause that an answer's set makes false
+-- desk_of: a session with what its base and its source mean; answer_of: an answer and its table in words; plan_fault: the first plan clause that an answer's set makes false
 -- claim_of: what a session on an answer is opened on; verdict_for: the verdict on it
--- HoldsEach: memory holds each of some clauses; Lays: the opening's clauses laid on a base
--- Opens, OpeningLeaves: an opening, and what it leaves in memory; Closes: a closing call; closing: what it comes to
+-- Claims: what a session on an answer opens on, unless it is a set that is no plan
+-- Opens, OnlyRefused: an opening, and what it is refused for; Closes: a closing call; closing: what it comes to
 -- Concludes, RunLeaves: a whole run, and what it leaves in memory
 -- TrueVerdict: a verdict is true; Complete: a good certificate has its verdict
-use Rattle.std.specs.Prelude.{◌≡◌, ℕ, suc, ◌≤◌, false, cond, not, T, List, [], length, ℤ, pos, Some, None, Ok, Err, Option, Result, ◌≢◌}
+use Rattle.std.specs.Prelude.{◌≡◌, ℕ, suc, ◌≤◌, false, cond, not, T, List, ℤ, Some, None, Ok, Err, Option, Result, ◌≢◌}
 use Rattle.verdict.specs.Counted.{counts_of}
 use Rattle.verdict.specs.declared.session.Open.{Open}
 use Rattle.verdict.specs.declared.session.Claim.{Claim}
 use Rattle.verdict.specs.declared.session.Claim.TheVariants.{Fail, Plan}
 use Rattle.verdict.specs.declared.session.Refuted.{Refuted}
 use Rattle.verdict.specs.declared.session.StillOpen.{StillOpen}
-use Rattle.clauses.specs.declared.fault.BaseFault.{BaseFault}
 use Rattle.verdict.specs.declared.outcome.OpenFault.{OpenFault}
 use Rattle.verdict.specs.declared.outcome.OpenFault.TheVariants.{NotPlan, NoRoom, InTrial}
 use Rattle.verdict.specs.declared.outcome.SessionFault.{SessionFault}
@@ -20,19 +19,27 @@ use Rattle.verdict.specs.declared.outcome.SessionFault.TheVariants.{Opening, Unc
 use Rattle.verdict.specs.declared.reply.Reply.{Reply}
 use Rattle.verdict.specs.declared.outcome.Verdict.{Verdict}
 use Rattle.verdict.specs.declared.outcome.Verdict.TheVariants.{Optimal, Impossible}
-use Rattle.text.specs.Lists.{Each}
 use Rattle.problem.specs.Cudf.{Problem}
-use Rattle.text.specs.Literals.{Clause}
 use Rattle.problem.specs.PlanClauses.{plan_clauses, first_false}
+use Rattle.problem.specs.Sets.{set_of}
+use Rattle.problem.specs.declared.answer.Answer.{Answer as Given}
+use Rattle.problem.specs.declared.answer.Answer.TheVariants.{Fail as Failed, Set}
+use Rattle.problem.specs.declared.plan_check.NotPlan.{NotPlan as Unplanned}
+use Rattle.problem.specs.declared.standing.Standing.{Standing}
+use Rattle.verdict.specs.OpeningCalls.{within}
 use Rattle.clauses.specs.ClauseBase.{Meaning, idle, cleared}
 use Rattle.certificate.specs.Stream.{Placed, Stream}
-use Rattle.certificate.specs.Reading.{Memory, memory_of, standing}
+use Rattle.certificate.specs.Reading.{Memory, memory_of}
 use Rattle.verdict.specs.Session.{Desk, Run, Answer, fail, set, opens, opening_fits, desk_on, IsPlanOrFail}
 use Rattle.verdict.specs.Calls.{LeavesAfter}
 use Rattle.verdict.specs.Law.{Means, verdict_of, Good, up_to_empty}
 
 abbrev pub desk_of : Open → Meaning → Stream → Desk
 desk_of o m s = record { base = m; source = s; emptied = o.emptied; accepted = o.last }
+
+abbrev pub answer_of : Given → List Standing → Answer
+answer_of Failed t = fail
+answer_of Set t = set (set_of t)
 
 abbrev pub plan_fault : Problem → Answer → Option ℕ
 plan_fault q fail = None
@@ -46,14 +53,10 @@ abbrev pub verdict_for : Claim → Verdict
 verdict_for Fail = Impossible
 verdict_for (Plan n) = Optimal n
 
--- memory for n literals holds each clause
-abbrev pub HoldsEach : ℕ → List Clause → Type 0
-HoldsEach n cs = Each (λ c. length c ≤ n) cs
-
--- the opening's clauses on a base with no trial
-abbrev pub Lays : Meaning → Problem → Answer → Result (Unit {0}) BaseFault → Meaning → Type 0
-Lays m q a (Ok u) m' = T (opening_fits m q a) × (m' ≡ opens m q a)
-Lays m q a (Err f) m' = T (not (opening_fits m q a)) × (m'.trial ≡ idle) × (m'.room ≡ m.room)
+-- what a session on an answer opens on, unless the answer is a set that is no plan
+abbrev pub Claims : Problem → Answer → Result Claim Unplanned → Type 0
+Claims q a (Ok k) = (plan_fault q a ≡ None) × (k ≡ claim_of q a) × (within (claim_of q a) ≡ claim_of q a)
+Claims q a (Err f) = plan_fault q a ≡ Some f.clause
 
 -- An opening: a trial goes before a set that is no plan, and that before the room.
 abbrev pub Opens : Meaning → Problem → Answer → Result Open OpenFault → Meaning → Type 0
@@ -62,12 +65,10 @@ Opens m q a (Err InTrial) m' = (m.trial ≢ idle) × (m' ≡ m)
 Opens m q a (Err (NotPlan n)) m' = (m.trial ≡ idle) × (plan_fault q a ≡ Some n) × (m' ≡ cleared m 0)
 Opens m q a (Err NoRoom) m' = (m.trial ≡ idle) × (plan_fault q a ≡ None) × T (not (opening_fits m q a)) × (m' ≡ cleared m 0)
 
--- the memory that an opening was lent: zeros, once clauses were laid through it
-abbrev pub OpeningLeaves : List ℤ → Result Open OpenFault → List ℤ → Type 0
-OpeningLeaves ls (Ok o) ls' = ls' ≡ standing (pos 0) (length ls) []
-OpeningLeaves ls (Err InTrial) ls' = ls' ≡ ls
-OpeningLeaves ls (Err (NotPlan n)) ls' = ls' ≡ ls
-OpeningLeaves ls (Err NoRoom) ls' = ls' ≡ standing (pos 0) (length ls) []
+-- on a base with no trial it is refused only if the answer is neither FAIL nor a plan, or the opening does not fit
+abbrev pub OnlyRefused : Meaning → Problem → Answer → Result Open OpenFault → Type 0
+OnlyRefused m q a (Ok o) = Unit {0}
+OnlyRefused m q a (Err f) = m.trial ≡ idle → IsPlanOrFail q a → T (not (opening_fits m q a))
 
 -- A closing call: refused at the place after the last accepted step, at 1 if there was none.
 abbrev pub Closes : Open → Result Refuted StillOpen → Type 0
@@ -99,6 +100,6 @@ Complete q a k m s n r = m.trial ≡ idle → IsPlanOrFail q a → T (opening_fi
 
 -- and what a whole run leaves in memory, of n replies
 abbrev pub RunLeaves : List ℤ → List ℕ → List Placed → ℕ → Result Verdict SessionFault → List ℤ → List ℕ → Type 0
-RunLeaves ls hs ps n (Ok v) ls' hs' = LeavesAfter (memory_of ls hs) ps n (standing (pos 0) (length ls) []) hs ls' hs'
-RunLeaves ls hs ps n (Err (Unclosed p)) ls' hs' = LeavesAfter (memory_of ls hs) ps n (standing (pos 0) (length ls) []) hs ls' hs'
-RunLeaves ls hs ps n (Err (Opening f)) ls' hs' = OpeningLeaves ls (Err f) ls' × (hs' ≡ hs)
+RunLeaves ls hs ps n (Ok v) ls' hs' = LeavesAfter (memory_of ls hs) ps n ls hs ls' hs'
+RunLeaves ls hs ps n (Err (Unclosed p)) ls' hs' = LeavesAfter (memory_of ls hs) ps n ls hs ls' hs'
+RunLeaves ls hs ps n (Err (Opening f)) ls' hs' = (ls' ≡ ls) × (hs' ≡ hs)

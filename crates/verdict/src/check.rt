@@ -1,19 +1,23 @@
 //! From the bytes of three files to the line.
-ghost use Rattle.std.specs.Prelude.{◌≡◌, length, replicate};
+ghost use Rattle.std.specs.Prelude.{◌≡◌, length, replicate, pos};
+ghost use Rattle.certificate.specs.Reading.{memory_of};
 ghost use Rattle.problem.specs.Answers.{read_answer};
 ghost use Rattle.problem.specs.Meaning.{problem_of};
 ghost use Rattle.problem.specs.PlanClauses.{plan_clauses, first_false};
-ghost use Rattle.problem.specs.Reading.{read_problem};
 ghost use Rattle.problem.specs.Rows.{no_package, no_constraint};
 ghost use Rattle.problem.specs.Sets.{set_of};
 ghost use Rattle.problem.specs.declared.standing.Standing.TheVariants.{Unnamed};
-ghost use Rattle.verdict.specs.Verdicts.{length_ok, on_plan, on_answer, rooms_of, judged, line_of, Means};
+ghost use Rattle.verdict.specs.Opened.{answer_of};
+ghost use Rattle.verdict.specs.Verdicts.{rooms_of, length_ok, lengths_ok, line_for, InSession, OnPlan, OnAnswer, Judged, line_of, Comes, Means, Completes};
 
 use crate::counts::Counts;
 use crate::fault::VerdictFault;
 use crate::line::{File, Line};
+use crate::outcome::Verdict;
+use crate::whole::conclude;
+use certificate::form::open;
+use clauses::base::ClauseBase;
 use problem::answer::{Answer, read_answer};
-use problem::counts::{changed_names, removed_names};
 use problem::plan_check::check_plan;
 use problem::read::read_problem;
 use problem::rows::{ConstraintRow, NO_CONSTRAINT, NO_PACKAGE, PackageRow};
@@ -33,88 +37,170 @@ fn check_length(file: File, text: &[u8]) -> Result<(), VerdictFault>
     Ok(())
 }
 
+/// Refuses the first file that is too long.
+fn check_lengths(problem: &[u8], answer: &[u8], certificate: &[u8]) -> Result<(), VerdictFault>
+    ensures { result ≡ lengths_ok problem.now answer.now certificate.now }
+{
+    check_length(File::Problem, problem)?;
+    check_length(File::Answer, answer)?;
+    check_length(File::Certificate, certificate)
+}
+
+/// The line of a verdict.
+fn line_for(verdict: Verdict) -> Line
+    ensures { result ≡ line_for verdict }
+{
+    match verdict {
+        Verdict::Optimal(counts) => Line::Optimal(counts),
+        Verdict::Impossible => Line::Impossible,
+    }
+}
+
+/// What a session on an answer comes to, with the steps of a certificate.
+fn judge_session<B: ClauseBase>(
+    problem: &Problem<'_, '_, '_>,
+    answer: Answer,
+    set: &[Standing],
+    certificate: &[u8],
+    base: &mut B,
+    literals: &mut [i32],
+    hints: &mut [u32],
+) -> Result<Line, VerdictFault>
+    ensures { InSession (memory_of literals.old hints.old) (problem_of problem.now) (answer_of answer set.now) certificate.now (B.meaning base.old) result (B.meaning base.new) }
+{
+    let mut source = open(certificate);
+    let verdict = conclude(base, problem, answer, set, &mut source, literals, hints)?;
+    Ok(line_for(verdict))
+}
+
+/// What a set comes to.
+fn judge_set<B: ClauseBase>(
+    problem: &Problem<'_, '_, '_>,
+    set: &[Standing],
+    certificate: &[u8],
+    base: &mut B,
+    literals: &mut [i32],
+    hints: &mut [u32],
+) -> Result<Line, VerdictFault>
+    ensures { OnPlan (memory_of literals.old hints.old) (problem_of problem.now) (set_of set.now) certificate.now (first_false (set_of set.now) (plan_clauses (problem_of problem.now))) (B.meaning base.old) result (B.meaning base.new) }
+{
+    check_plan(problem, set)?;
+    if certificate.is_empty() {
+        return Ok(Line::Plan(Counts::of(problem, set)));
+    }
+    judge_session(
+        problem,
+        Answer::Set,
+        set,
+        certificate,
+        base,
+        literals,
+        hints,
+    )
+}
+
 /// What an answer to a problem comes to.
-fn judge_answer(
+fn judge_answer<B: ClauseBase>(
     problem: &Problem<'_, '_, '_>,
     answer_text: &[u8],
     certificate: &[u8],
     table: &mut [Standing],
-) -> Result<Option<Counts>, VerdictFault>
-    ensures { result ≡ on_answer (problem_of problem.now) certificate.now (read_answer (problem_of problem.now).packages (length table.old) answer_text.now) }
+    base: &mut B,
+    literals: &mut [i32],
+    hints: &mut [u32],
+) -> Result<Line, VerdictFault>
+    ensures { OnAnswer (memory_of literals.old hints.old) (problem_of problem.now) certificate.now (read_answer (problem_of problem.now).packages (length table.old) answer_text.now) (B.meaning base.old) result (B.meaning base.new) }
 {
     match read_answer(answer_text, problem, table)? {
-        Answer::Fail => Ok(None),
-        Answer::Set => judge_set(problem, table, certificate),
+        Answer::Fail => judge_session(
+            problem,
+            Answer::Fail,
+            table,
+            certificate,
+            base,
+            literals,
+            hints,
+        ),
+        Answer::Set => judge_set(problem, table, certificate, base, literals, hints),
     }
 }
 
-/// What a set comes to.
-fn judge_set(
-    problem: &Problem<'_, '_, '_>,
-    set: &[Standing],
-    certificate: &[u8],
-) -> Result<Option<Counts>, VerdictFault>
-    ensures { result ≡ on_plan (problem_of problem.now) (set_of set.now) certificate.now (first_false (set_of set.now) (plan_clauses (problem_of problem.now))) }
-{
-    check_plan(problem, set)?;
-    if !certificate.is_empty() {
-        return Ok(None);
-    }
-    Ok(Some(Counts {
-        removed: removed_names(problem, set),
-        changed: changed_names(problem, set),
-    }))
-}
-
-/// What the files come to: a plan's counts, or nothing where a certificate would have to be checked.
+/// What the files come to.
 // The rows are lent apart: a `&mut` slice says by itself that the memory stays, of the same length.
-fn judge(
+fn judge<B: ClauseBase>(
     problem_text: &[u8],
     answer_text: &[u8],
     certificate: &[u8],
     packages: &mut [PackageRow],
     constraints: &mut [ConstraintRow],
     table: &mut [Standing],
-) -> Result<Option<Counts>, VerdictFault>
-    ensures { result ≡ judged (rooms_of packages.old constraints.old table.old) problem_text.now answer_text.now certificate.now }
+    base: &mut B,
+    literals: &mut [i32],
+    hints: &mut [u32],
+) -> Result<Line, VerdictFault>
+    ensures { Judged (rooms_of packages.old constraints.old table.old literals.old hints.old) problem_text.now answer_text.now certificate.now (B.meaning base.old) result (B.meaning base.new) }
 {
-    check_length(File::Problem, problem_text)?;
-    check_length(File::Answer, answer_text)?;
-    check_length(File::Certificate, certificate)?;
+    check_lengths(problem_text, answer_text, certificate)?;
     let mut problem = Problem::none();
     read_problem(problem_text, packages, constraints, &mut problem)?;
-    judge_answer(&problem, answer_text, certificate, table)
+    judge_answer(
+        &problem,
+        answer_text,
+        certificate,
+        table,
+        base,
+        literals,
+        hints,
+    )
 }
 
-/// The line that three files come to, or nothing where a certificate would have to be checked. The memory is then all
-/// zero.
-pub fn check(
+/// The line for what the files came to.
+fn line_of(judgement: Result<Line, VerdictFault>) -> Line
+    ensures { result ≡ line_of judgement }
+{
+    match judgement {
+        Ok(line) => line,
+        Err(fault) => Line::Refused(fault.into()),
+    }
+}
+
+/// The line that three files come to. The memory is then all zero, and the base is as a session left it, if there was
+/// one.
+pub fn check<B: ClauseBase>(
     problem: &[u8],
     answer: &[u8],
     certificate: &[u8],
     packages: &mut [PackageRow],
     constraints: &mut [ConstraintRow],
     table: &mut [Standing],
-) -> Option<Line>
-    ensures line { result ≡ line_of (judged (rooms_of packages.old constraints.old table.old) problem.now answer.now certificate.now) }
-    ensures means { Means (rooms_of packages.old constraints.old table.old) problem.now answer.now result }
+    base: &mut B,
+    literals: &mut [i32],
+    hints: &mut [u32],
+) -> Line
+    ensures line { Comes (rooms_of packages.old constraints.old table.old literals.old hints.old) problem.now answer.now certificate.now (B.meaning base.old) result (B.meaning base.new) }
+    ensures means { Means (rooms_of packages.old constraints.old table.old literals.old hints.old) problem.now answer.now result }
+    ensures completes { Completes (rooms_of packages.old constraints.old table.old literals.old hints.old) problem.now answer.now certificate.now (B.meaning base.old) result }
     ensures packages { packages.new ≡ replicate (length packages.old) no_package }
     ensures constraints { constraints.new ≡ replicate (length constraints.old) no_constraint }
     ensures table { table.new ≡ replicate (length table.old) Unnamed }
+    ensures literals { literals.new ≡ replicate (length literals.old) (pos 0) }
+    ensures hints { hints.new ≡ replicate (length hints.old) 0 }
 {
-    let judgement = judge(problem, answer, certificate, packages, constraints, table);
+    let judgement = judge(
+        problem,
+        answer,
+        certificate,
+        packages,
+        constraints,
+        table,
+        base,
+        literals,
+        hints,
+    );
     packages.fill(NO_PACKAGE);
     constraints.fill(NO_CONSTRAINT);
     table.fill(Standing::Unnamed);
+    literals.fill(0);
+    hints.fill(0);
     line_of(judgement)
-}
-
-/// The line for what the files came to.
-fn line_of(judgement: Result<Option<Counts>, VerdictFault>) -> Option<Line>
-    ensures { result ≡ line_of judgement }
-{
-    match judgement {
-        Ok(counts) => counts.map(Line::Plan),
-        Err(fault) => Some(Line::Refused(fault.into())),
-    }
 }

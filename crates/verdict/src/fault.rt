@@ -1,9 +1,10 @@
 //! What a run can be refused for.
 ghost use Rattle.std.specs.Prelude.{◌≡◌};
-ghost use Rattle.verdict.specs.Refusal.{refused};
-ghost use Rattle.verdict.specs.declared.fault.VerdictFault.TheVariants.{Problem, Answer, NoPlan};
+ghost use Rattle.verdict.specs.Refusal.{refused, refused_run};
+ghost use Rattle.verdict.specs.declared.fault.VerdictFault.TheVariants.{Problem, Answer, NoPlan, Session};
 
 use crate::line::{File, Refusal};
+use crate::outcome::{OpenFault, RunFault, SessionFault};
 use problem::fault::{AnswerFault, ProblemFault};
 use problem::plan_check::NotPlan;
 
@@ -16,6 +17,8 @@ pub enum VerdictFault {
     Answer(AnswerFault),
     /// The set is no plan.
     NoPlan(NotPlan),
+    /// The session on the answer gives no verdict.
+    Session(RunFault),
 }
 
 // Each `from` is written by hand, since contracts say by its `from_gives` which fault `?` makes.
@@ -40,6 +43,14 @@ impl From<NotPlan> for VerdictFault {
 
     fn from(fault: NotPlan) -> VerdictFault {
         VerdictFault::NoPlan(fault)
+    }
+}
+
+impl From<RunFault> for VerdictFault {
+    ghost from_gives = { λ f r. r ≡ Session f };
+
+    fn from(fault: RunFault) -> VerdictFault {
+        VerdictFault::Session(fault)
     }
 }
 
@@ -69,6 +80,35 @@ impl From<VerdictFault> for Refusal {
                 place: fault.clause as usize,
                 number: 13,
             },
+            VerdictFault::Session(fault) => refusal_of_run(fault),
         }
+    }
+}
+
+/// The same for a fault of a session.
+fn refusal_of_run(fault: RunFault) -> Refusal
+    ensures { result ≡ refused_run fault }
+{
+    match fault {
+        RunFault::Session(SessionFault::Opening(OpenFault::NotPlan(clause))) => Refusal {
+            file: File::Answer,
+            place: clause as usize,
+            number: 13,
+        },
+        RunFault::Session(SessionFault::Opening(fault)) => Refusal {
+            file: File::Certificate,
+            place: 0,
+            number: fault.number(),
+        },
+        RunFault::Session(SessionFault::Unclosed(place)) => Refusal {
+            file: File::Certificate,
+            place: place as usize,
+            number: 25,
+        },
+        RunFault::Step(fault, place) => Refusal {
+            file: File::Certificate,
+            place: place as usize,
+            number: fault.number(),
+        },
     }
 }

@@ -26,10 +26,15 @@ pub struct Refusal {
 }
 
 /// What a run comes to.
-// No `Result`: a refusal is a line as good as a plan, and no call fails by it.
+// No `Result`: a refusal is a line like the others, and is printed like them.
 #[derive(Clone, Copy, PartialEq, Eq, Debug)]
 pub enum Line {
+    /// The set is a plan with these counts.
     Plan(Counts),
+    /// It is one that no plan beats.
+    Optimal(Counts),
+    /// There is no plan.
+    Impossible,
     Refused(Refusal),
 }
 
@@ -52,12 +57,9 @@ fn push_line(line: Line, out: &mut Rows<'_, u8>) -> Result<(), Full>
     ensures same { Same out.old out.new }
 {
     match line {
-        Line::Plan(counts) => push_pair(
-            b"PLAN ",
-            u64::from(counts.removed),
-            u64::from(counts.changed),
-            out,
-        ),
+        Line::Plan(counts) => push_counts(b"PLAN ", counts, out),
+        Line::Optimal(counts) => push_counts(b"OPTIMAL ", counts, out),
+        Line::Impossible => push_all(out, b"IMPOSSIBLE\n"),
         Line::Refused(refusal) => push_pair(
             refused_in(refusal.file),
             refusal.place as u64,
@@ -65,6 +67,19 @@ fn push_line(line: Line, out: &mut Rows<'_, u8>) -> Result<(), Full>
             out,
         ),
     }
+}
+
+/// Writes a line that ends in the counts of a plan.
+fn push_counts(words: &[u8], counts: Counts, out: &mut Rows<'_, u8>) -> Result<(), Full>
+    ensures appends { Appends out.old (pair words.now counts.removed counts.changed) result out.new }
+    ensures same { Same out.old out.new }
+{
+    push_pair(
+        words,
+        u64::from(counts.removed),
+        u64::from(counts.changed),
+        out,
+    )
 }
 
 /// How the line of a refusal begins.

@@ -4,13 +4,14 @@ ghost use Rattle.problem.specs.Feeding.{Fed};
 ghost use Rattle.problem.specs.Meaning.{problem_of};
 ghost use Rattle.problem.specs.Cudf.{names, installed_names};
 ghost use Rattle.verdict.specs.Opening.{variables, removed_clauses, changed_clauses, opening};
-ghost use Rattle.verdict.specs.OpeningCalls.{Places, second_base, counters_of, at_most, fewer, bounds_of};
+ghost use Rattle.verdict.specs.OpeningCalls.{Places, second_base, counters_of, at_most, fewer, bounds_of, variables_on, clauses_on, within};
 
 use crate::counter::feed_counter;
 use crate::counts::Counts;
 use crate::indicators::feed_indicators;
 use crate::layout::Layout;
 use crate::names::{Indicator, count_listed};
+use crate::session::Claim;
 use problem::plan_clauses::feed_plan_clauses;
 use problem::sink::{ClauseSink, Stopped};
 use problem::variable::Variable;
@@ -55,8 +56,8 @@ fn registers(inputs: u32, limit: u32) -> u32
     inputs * limit
 }
 
-/// The number of variables of the opening. Counts above 256 are taken as 256.
-pub fn count_variables(problem: &Problem<'_, '_, '_>, counts: Counts) -> u32
+/// The number of variables of the opening on a plan. Counts above 256 are taken as 256.
+fn count_on_plan(problem: &Problem<'_, '_, '_>, counts: Counts) -> u32
     ensures { result ≡ variables (problem_of problem.now) (min counts.removed 256) (min counts.changed 256) }
 {
     let places = lay_out(problem);
@@ -64,6 +65,16 @@ pub fn count_variables(problem: &Problem<'_, '_, '_>, counts: Counts) -> u32
     let first = registers(places.installed, most.removed + 1);
     let second = registers(places.names, most.changed);
     places.choice + first + second
+}
+
+/// The number of variables of the opening. Counts above 256 are taken as 256.
+pub fn count_variables(problem: &Problem<'_, '_, '_>, claim: Claim) -> u32
+    ensures { result ≡ variables_on (problem_of problem.now) (within claim) }
+{
+    match claim {
+        Claim::Fail => problem.packages().len() as u32,
+        Claim::Plan(counts) => count_on_plan(problem, counts),
+    }
 }
 
 /// The counters of the removed and of the changed variables.
@@ -152,8 +163,8 @@ fn feed_bounds<S: ClauseSink>(places: Layout, counts: Counts, sink: &mut S) -> R
     feed_fewer(choice.yes(), last, counts.changed, sink)
 }
 
-/// Hands the clauses of the opening to a sink as long as it takes them. Counts above 256 are taken as 256.
-pub fn feed_opening<S: ClauseSink>(
+/// Hands the clauses of the opening on a plan to a sink. Counts above 256 are taken as 256.
+fn feed_on_plan<S: ClauseSink>(
     problem: &Problem<'_, '_, '_>,
     counts: Counts,
     sink: &mut S,
@@ -166,4 +177,18 @@ pub fn feed_opening<S: ClauseSink>(
     feed_names(problem, places, sink)?;
     feed_counters(places, most, sink)?;
     feed_bounds(places, most, sink)
+}
+
+/// Hands the clauses of the opening to a sink as long as it takes them. Counts above 256 are taken as 256.
+pub fn feed_opening<S: ClauseSink>(
+    problem: &Problem<'_, '_, '_>,
+    claim: Claim,
+    sink: &mut S,
+) -> Result<(), Stopped>
+    ensures { Fed S.goes S.stops (clauses_on (problem_of problem.now) (within claim)) result sink.old sink.new }
+{
+    match claim {
+        Claim::Fail => feed_plan_clauses(problem, sink),
+        Claim::Plan(counts) => feed_on_plan(problem, counts, sink),
+    }
 }

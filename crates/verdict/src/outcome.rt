@@ -1,11 +1,13 @@
 //! What a session comes to.
 ghost use Rattle.std.specs.Prelude.{◌≡◌};
 ghost use Rattle.verdict.specs.Numbers.{open_number, session_number};
+ghost use Rattle.verdict.specs.declared.outcome.OpenFault.TheVariants.{NotPlan};
 ghost use Rattle.verdict.specs.declared.outcome.RunFault.TheVariants.{Session};
 ghost use Rattle.verdict.specs.declared.outcome.SessionFault.TheVariants.{Opening};
 
 use crate::counts::Counts;
 use crate::reply::StepFault;
+use problem::plan_check::NotPlan as Unplanned;
 
 /// The verdict on a `Claim`.
 // No `Option`: that there is no plan is a verdict too.
@@ -56,6 +58,14 @@ impl From<OpenFault> for RunFault {
 
     fn from(fault: OpenFault) -> RunFault {
         RunFault::Session(fault.into())
+    }
+}
+
+impl From<Unplanned> for OpenFault {
+    ghost from_gives = { λ f r. r ≡ NotPlan f.clause };
+
+    fn from(fault: Unplanned) -> OpenFault {
+        OpenFault::NotPlan(fault.clause)
     }
 }
 

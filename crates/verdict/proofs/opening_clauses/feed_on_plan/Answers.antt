@@ -1,7 +1,7 @@
 use Rattle.std.proofs.Common.{Err, refl}
 use Rattle.problem.proofs.Feeds.{fed_on, fed_stop, fed_as}
 use Rattle.verdict.proofs.OpeningParts.{opened}
-use Rattle.verdict.proofs.opening_clauses.feed_opening.Goals as goal
+use Rattle.verdict.proofs.opening_clauses.feed_on_plan.Goals as goal
 
 pub returns-in_err-feed_plan_clauses : goal.returns-in_err-feed_plan_clauses
 returns-in_err-feed_plan_clauses g c =
