@@ -110,6 +110,7 @@ impl Memory {
         })
     }
 
+    // Two methods, since each base has a constructor of its own.
     fn counting(&mut self) -> Counting<'_> {
         Counting::new(
             &mut self.rows,

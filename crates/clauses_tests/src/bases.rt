@@ -102,6 +102,7 @@ impl Memory {
         }
     }
 
+    // Two methods, since each base has a constructor of its own.
     pub fn counting(&mut self) -> Counting<'_> {
         let Memory {
             rows,

@@ -9,6 +9,7 @@ use crate::standing::Standing;
 use crate::view::Problem;
 
 /// What an answer claims: that no plan exists, or that a set is one.
+// The set lies in the table that is lent for it, so `Set` holds none.
 #[derive(Clone, Copy)]
 pub enum Answer {
     Fail,

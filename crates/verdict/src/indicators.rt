@@ -65,7 +65,7 @@ fn write_variable(clause: &mut Rows<'_, i32>, variable: Variable)
 }
 
 // `write_met` of problem does the same by another test. One function for both would take the test, and its contract would
-// say of it what these two say.
+// say of it what these two say. And `put` and `variable_at` of problem have a `requires`, so they are not public.
 
 /// Puts the versions of a name at the end of a clause.
 fn write_versions(stanzas: &Stanzas<'_>, name: &[u8], clause: &mut Rows<'_, i32>)
