@@ -100,25 +100,25 @@ def matching(text, at):
     return None if start is None else close_of(text, start)
 
 
-def structs():
+def blocks(kind):
+    """Each struct or enum: where it stands, its name and what its braces hold."""
     for path in sorted(TOP.glob('crates/*/src/**/*.rt')):
         text = path.read_text()
-        for found in re.finditer(r'^(?:pub(?:\([a-z]+\))? )?struct (\w+)[^;{]*\{', text, re.M):
+        for found in re.finditer(rf'^(?:pub(?:\([a-z]+\))? )?{kind} (\w+)[^;{{]*\{{', text, re.M):
             body = text[found.end():close_of(text, found.end() - 1)]
-            fields = re.findall(r'^\s+(?:pub(?:\([a-z]+\))? )?(\w+): ([^,{]+),', body, re.M)
-            facts = re.findall(r'^\s+ghost (\w+): \{ (.*) \},', body, re.M)
-            line = text.count('\n', 0, found.start()) + 1
-            yield path.relative_to(TOP), line, found.group(1), fields, facts
+            yield path.relative_to(TOP), text.count('\n', 0, found.start()) + 1, found.group(1), body
+
+
+def structs():
+    for path, line, name, body in blocks('struct'):
+        fields = re.findall(r'^\s+(?:pub(?:\([a-z]+\))? )?(\w+): ([^,{]+),', body, re.M)
+        facts = re.findall(r'^\s+ghost (\w+): \{ (.*) \},', body, re.M)
+        yield path, line, name, fields, facts
 
 
 def enums():
-    for path in sorted(TOP.glob('crates/*/src/**/*.rt')):
-        text = path.read_text()
-        for found in re.finditer(r'^(?:pub(?:\([a-z]+\))? )?enum (\w+)[^;{]*\{', text, re.M):
-            body = text[found.end():close_of(text, found.end() - 1)]
-            cases = re.findall(r'^    (\w+)(\([^)]*\))?,', body, re.M)
-            line = text.count('\n', 0, found.start()) + 1
-            yield path.relative_to(TOP), line, found.group(1), cases
+    for path, line, name, body in blocks('enum'):
+        yield path, line, name, re.findall(r'^    (\w+)(\([^)]*\))?,', body, re.M)
 
 
 def point_1():

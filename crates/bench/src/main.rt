@@ -110,7 +110,7 @@ impl Memory {
         })
     }
 
-    // Two methods, since each base has a constructor of its own.
+    // Two methods: the kind of scratch memory names the base.
     fn counting(&mut self) -> Counting<'_> {
         Counting::new(
             &mut self.rows,

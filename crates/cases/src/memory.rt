@@ -76,6 +76,7 @@ impl Clauses {
         })
     }
 
+    // Two methods: the kind of scratch memory names the base.
     pub fn counting(&mut self) -> Counting<'_> {
         Counting::new(
             &mut self.rows,

@@ -63,7 +63,7 @@ impl Propagator for Counters<'_> {
     ) -> Result<(), Conflict> {
         let left = &mut *self.left;
         let mut link = index.heads[code_against(trail.literals[head])];
-        // A list is links in lent memory, and is gone through while the memory is written.
+        // A list is links in lent memory: there is no slice to go through.
         while link != 0 {
             let entry = link as usize - 1;
             link = index.next[entry];

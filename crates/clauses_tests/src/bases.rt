@@ -102,7 +102,7 @@ impl Memory {
         }
     }
 
-    // Two methods, since each base has a constructor of its own.
+    // Two methods: the kind of scratch memory names the base.
     pub fn counting(&mut self) -> Counting<'_> {
         let Memory {
             rows,

@@ -57,7 +57,7 @@ impl Log {
         }
     }
 
-    // Answers that are no numbers go into the trace as numbers past 1000.
+    // The trace is numbers alone, so that two of them compare as one; what a hint or a run says is a number past 1000.
 
     /// What a call answers that gives a number.
     pub fn numbered(&mut self, answer: Result<u32, BaseFault>) {

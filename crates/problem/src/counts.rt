@@ -20,6 +20,7 @@ pub fn removed_names(problem: &Problem<'_, '_, '_>, set: &[Standing]) -> u32
     count_names(&stanzas, |name| is_removed(&stanzas, set, name))
 }
 
+// A question of its own, as `removed_names` is, over one count.
 /// How many names have other versions in the set than were installed.
 pub fn changed_names(problem: &Problem<'_, '_, '_>, set: &[Standing]) -> u32
     ensures { result ≡ changed_count (problem_of problem.now) (set_of set.now) }

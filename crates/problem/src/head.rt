@@ -34,7 +34,8 @@ fn once<T: Copy>(number: usize, already: Option<T>, read: Option<T>) -> Result<T
     }
 }
 
-// A bool says that the rows are full: the rows are lent to what reads the lists, and a bad name comes before lack of room.
+// `full` is a bool, since a bad name is refused before lack of room: a problem has no place for one more row, or an answer
+// has its most stanzas.
 
 /// Begins a stanza at its first line; `full` says that there is no place for one more.
 pub(crate) fn begin(line: &PropertyLine<'_>, full: bool) -> Result<Head, ProblemFault>

@@ -39,8 +39,8 @@ pub struct PackageRow {
 }
 
 /// A constraint, and whether it is the last of its conjunct.
-// Rows have a zero row, so `Any` stands beside the version 0 and not for an absent bound; and conjuncts lie in one run of
-// rows, which has no place for lists of its own.
+// Lent rows are zero where none is used, so a constraint without a bound is `Any` beside version 0; the conjuncts of a package
+// are one run of rows, each ended by `last`.
 #[derive(Clone, Copy)]
 pub struct ConstraintRow {
     pub name: Word,

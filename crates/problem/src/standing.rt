@@ -11,6 +11,7 @@ pub enum Standing {
     In,
 }
 
+// Written by hand, since contracts say by its `from_gives` what is made.
 /// What is said of a stanza that is named, by whether it is installed.
 impl From<bool> for Standing {
     ghost from_gives = { λ b s. s ≡ standing b };

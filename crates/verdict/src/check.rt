@@ -126,7 +126,7 @@ fn judge_answer<B: ClauseBase>(
 }
 
 /// What the files come to.
-// The rows are lent apart: a `&mut` slice says by itself that the memory stays, of the same length.
+// The memories are lent apart: a `&mut` slice says by itself that the memory stays, of the same length.
 fn judge<B: ClauseBase>(
     problem_text: &[u8],
     answer_text: &[u8],

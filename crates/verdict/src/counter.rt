@@ -25,6 +25,7 @@ fn feed_kept<S: ClauseSink>(before: u32, row: u32, limit: u32, sink: &mut S) -> 
     Ok(())
 }
 
+// Apart from `feed_kept`: these clauses have three literals.
 /// That they are one higher if the input is true.
 fn feed_raised<S: ClauseSink>(
     input: Variable,

@@ -64,8 +64,8 @@ fn write_variable(clause: &mut Rows<'_, i32>, variable: Variable)
     let _ = clause.push(variable.yes());
 }
 
-// `write_met` of problem does the same by another test. One function for both would take the test, and its contract would
-// say of it what these two say. And `put` and `variable_at` of problem have a `requires`, so they are not public.
+// `write_met` of problem does the same by another test. One function for both would take the test, and its contract would be
+// no shorter; and a public function has no `requires`, so `put` and `variable_at` stay inside problem.
 
 /// Puts the versions of a name at the end of a clause.
 fn write_versions(stanzas: &Stanzas<'_>, name: &[u8], clause: &mut Rows<'_, i32>)
@@ -127,7 +127,8 @@ pub(crate) fn feed_indicators<S: ClauseSink>(
     requires small { first ≤ 10000 }
     ensures { Fed S.goes S.stops (of_names indicator stanzas.now.text.now stanzas.now.rows.now first (listed_from indicator stanzas.now.text.now stanzas.now.rows.now 0)) result sink.old sink.new }
 {
-    // Tried: a loop over the filtered rows, which the check refuses in a function with a type parameter.
+    // Tried: a `for` over the filtered rows. No proof is made of one over an iterator with a closure where there is a type
+    // parameter.
     let mut number = first;
     for (place, row) in stanzas.rows.iter().enumerate() {
         if is_listed(stanzas, indicator, place, row) {

@@ -41,7 +41,7 @@ pub(crate) fn is_listed(
     stanzas.is_new(place, name) && has_indicator(stanzas, indicator, name)
 }
 
-// As `count_names` of problem counts, which takes a closure under a `requires` and so is not public.
+// As `count_names` of problem counts; that takes a closure under a `requires`, which a public function has not.
 /// How many names have an indicator.
 pub(crate) fn count_listed(stanzas: &Stanzas<'_>, indicator: Indicator) -> u32
     ensures count { result ≡ length (listed_from indicator stanzas.now.text.now stanzas.now.rows.now 0) }

@@ -35,7 +35,7 @@ pub enum Reply {
 }
 
 impl StepFault {
-    // The number that is printed: a part of the line, and no other form of the fault.
+    // No `From`: the number is one part of what is printed, and does not stand for the fault.
     /// The number of the refusal.
     pub fn number(self) -> u32
         ensures { result ≡ step_number self }

@@ -45,7 +45,7 @@ pub(super) fn feed_depends<S: ClauseSink>(
     requires { place < length stanzas.now.rows.now }
     ensures { Fed S.goes S.stops (each_all (λ cs. needs (suc place) (passing (row_satisfies_one stanzas.now.text.now cs) 0 stanzas.now.rows.now)) (conjuncts depends.now)) result sink.old sink.new }
 {
-    // Tried: one `for` over the groups, which the check refuses in a function with a type parameter.
+    // Tried: a `for` over the groups. No proof is made of one over an iterator with a closure where there is a type parameter.
     let mut rest = depends;
     while let Some(group) = rest.split_inclusive(|row| row.last).next() {
         feed_conjunct(stanzas, place, group, sink)?;
