@@ -57,13 +57,18 @@ impl Source for TextSource<'_> {
             blank(literals, hints);
             return Err(SourceFault::Form(place));
         };
-        let read = match read_line(&bytes[..n], literals, hints) {
-            Err(Unread::Form) => return Err(SourceFault::Form(place)),
-            Err(Unread::TooMany) => Err(SourceFault::TooMany(place)),
-            Ok(shape) => Ok(Some(Found { place, shape })),
-        };
-        self.number = place;
-        self.rest = &bytes[n + 1..];
-        read
+        match read_line(&bytes[..n], literals, hints) {
+            Err(Unread::Form) => Err(SourceFault::Form(place)),
+            Err(Unread::TooMany) => {
+                self.number = place;
+                self.rest = &bytes[n + 1..];
+                Err(SourceFault::TooMany(place))
+            }
+            Ok(shape) => {
+                self.number = place;
+                self.rest = &bytes[n + 1..];
+                Ok(Some(Found { place, shape }))
+            }
+        }
     }
 }

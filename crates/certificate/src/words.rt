@@ -41,7 +41,10 @@ pub(crate) fn push_words<T: Word>(bytes: &[u8], rows: &mut Rows<'_, T>)
     let mut rest = bytes;
     while let [a, b, c, d, more @ ..] = rest {
         let word = T::of_bytes([*a, *b, *c, *d]);
-        let _ = rows.push(word);
+        // There is a place for each; told so, the loop copies four words at a time.
+        if rows.push(word).is_err() {
+            return;
+        }
         rest = more;
     }
 }

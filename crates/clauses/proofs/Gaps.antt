@@ -1,6 +1,6 @@
 -- A store whose gaps are being closed.
 use Rattle.std.proofs.Common.{◌≡◌, ℕ, ◌+◌, ◌-◌, ◌<◌, ◌≤◌, true, false, ◌⊎◌, List, [], ◌∷◌, ◌++◌, length, get_or, take, drop, set, ℤ, sym, refl, ap, ◌∙◌, inl, inr, append-nil, arith}
-use Rattle.std.proofs.lemmas.List.{length-set, length-take-le, length-drop, length_push, take_more, drop-set-lt, drop-drop, get_or-drop}
+use Rattle.std.proofs.lemmas.List.{length-set, length-take-le, length-drop, length_push, take_more, take-take, take-append-drop, drop-take, drop-set-lt, drop-drop, get_or-drop}
 use Rattle.std.proofs.lemmas.Bool.{cases_lt}
 use Rattle.text.specs.Literals.{Clause}
 use Rattle.clauses.specs.ClauseBase.{literal_count}
@@ -27,6 +27,17 @@ get_d_on xs ys n k d le h =
 
 pub stretch_long : (lits : List ℤ) (start len : ℕ) → start + len ≤ length lits → length (take len (drop start lits)) ≡ len
 stretch_long lits start len h = length-take-le len (drop start lits) (omega (arith, length-drop start lits))
+
+take_parts : {X : Type 0} (xs : List X) (f n : ℕ) → take (f + n) xs ≡ take f xs ++ take n (drop f xs)
+take_parts xs f n =
+    sym (take-append-drop f (take (f + n) xs)) ∙ rw (take-take f (f + n) xs (omega arith), drop-take f n xs)
+
+-- literals that already stand where they should
+pub copied_here : (s : Store) (start len : ℕ) → s.filled ≡ start → start + len ≤ length s.literals.now → Copied s s (take len (drop start s.literals.now))
+copied_here s start len e h =
+    let lits = s.literals.now in
+    let n : length (take len (drop start lits)) ≡ len = stretch_long lits start len h in
+    record { rows = refl; count = refl; filled = refl; variables = refl; next = refl; long = refl; copied = rw (e, n) (take_parts lits start len); rest = refl }
 
 -- the row at k is next
 module _ (s t : Store) (k : ℕ) (lt : k < s.count) (cl : Closing s.rows.now s.literals.now s.count s.next s.variables t k) where

@@ -7,7 +7,6 @@ use clauses::counting::Counting;
 use clauses::fault::{BaseFault, Hinted};
 use clauses::row::Row;
 use clauses::watched::Watched;
-use std::alloc::AllocError;
 
 /// A base, lent.
 #[derive(Drop)]
@@ -20,8 +19,8 @@ impl<B: ClauseBase> Calls for Driven<'_, B> {
         self.base.clear(variables)
     }
 
-    fn add(&mut self, clause: &[i32]) -> Result<Result<u32, BaseFault>, AllocError> {
-        Ok(self.base.add(clause))
+    fn add(&mut self, clause: &[i32]) -> Result<u32, BaseFault> {
+        self.base.add(clause)
     }
 
     fn delete(&mut self, number: u32) -> Result<(), BaseFault> {
@@ -42,26 +41,20 @@ impl<B: ClauseBase> Calls for Driven<'_, B> {
 }
 
 impl<B: ClauseBase> Subject for Driven<'_, B> {
-    fn trial(
-        &mut self,
-        clause: &[i32],
-        random: &mut Random,
-        log: &mut Log,
-    ) -> Result<(), AllocError> {
+    fn trial(&mut self, clause: &[i32], random: &mut Random, log: &mut Log) {
         log.answer(self.run());
         let mark = match self.base.start(clause) {
             Ok(mark) => mark,
             Err(fault) => {
                 log.fault(fault);
-                return Ok(());
+                return;
             }
         };
         hint_some(self, random, log);
-        let disturbed = disturb(self, clause, log);
+        disturb(self, clause, log);
         log.answer(self.run());
         log.answer(self.run());
         self.base.finish(mark);
-        disturbed
     }
 
     fn ask(&self, number: u32, log: &mut Log) {
@@ -102,7 +95,7 @@ impl Memory {
         }
     }
 
-    // Two methods: the kind of scratch memory names the base.
+    // Two methods: the kind of scratch memory names the base. A row has one counter and two places.
     pub fn counting(&mut self) -> Counting<'_> {
         let Memory {
             rows,
@@ -114,7 +107,16 @@ impl Memory {
             owners,
             scratch,
         } = self;
-        Counting::new(rows, literals, values, trail, heads, next, owners, scratch)
+        Counting::new(
+            rows,
+            literals,
+            values,
+            trail,
+            heads,
+            next,
+            owners,
+            &mut scratch[..13],
+        )
     }
 
     pub fn watched(&mut self) -> Watched<'_> {

@@ -3,8 +3,6 @@ use crate::log::Log;
 use crate::random::Random;
 use crate::subject::{Calls, Subject, disturb, hint_some};
 use clauses::fault::{BaseFault, Hinted};
-use std::alloc::{AllocError, Global};
-use std::collections::BTreeMap;
 
 /// The most variables, clauses and literals.
 const VARIABLES: u32 = 8;
@@ -13,6 +11,36 @@ const CLAUSES: u32 = 13;
 
 const LITERALS: u32 = 26;
 
+/// More than the highest number that a play gives.
+const NUMBERS: usize = 200;
+
+/// The most literals of a clause.
+const LENGTH: usize = 4;
+
+/// A clause as it was given; zeros stand after its literals.
+#[derive(Clone, Copy)]
+struct Entry {
+    literals: [i32; LENGTH],
+    len: usize,
+}
+
+impl Entry {
+    fn new(clause: &[i32]) -> Entry {
+        let mut literals = [0; LENGTH];
+        for (place, literal) in literals.iter_mut().zip(clause) {
+            *place = *literal;
+        }
+        Entry {
+            literals,
+            len: clause.len(),
+        }
+    }
+
+    fn clause(&self) -> &[i32] {
+        &self.literals[..self.len.min(LENGTH)]
+    }
+}
+
 #[derive(Clone, Copy, PartialEq, Eq)]
 enum Stage {
     Idle,
@@ -20,12 +48,13 @@ enum Stage {
     Answered,
 }
 
+// No map: the play runs without a heap, and so has no want of memory to answer for.
+/// Each live clause stands at its number.
 #[derive(Drop)]
 pub struct Plain {
-    alloc: Global,
     variables: u32,
     next: u32,
-    clauses: BTreeMap<u32, Vec<i32>>,
+    clauses: [Option<Entry>; NUMBERS],
     values: [Option<bool>; 10],
     stage: Stage,
 }
@@ -77,12 +106,11 @@ fn is_bad(clause: &[i32], variables: u32) -> bool {
 }
 
 impl Plain {
-    pub fn new(alloc: Global) -> Plain {
+    pub fn new() -> Plain {
         Plain {
-            alloc,
             variables: 0,
             next: 1,
-            clauses: BTreeMap::new(alloc),
+            clauses: [None; NUMBERS],
             values: [None; 10],
             stage: Stage::Idle,
         }
@@ -102,21 +130,28 @@ impl Plain {
         if is_bad(clause, self.variables) {
             return Err(BaseFault::Malformed);
         }
+        let mut count = 0u32;
         let mut literals = clause.len();
-        for live in self.clauses.values() {
-            literals = literals.saturating_add(live.len());
+        for live in self.clauses.iter().flatten() {
+            count = count.saturating_add(1);
+            literals = literals.saturating_add(live.len);
         }
-        if self.clauses.len() >= CLAUSES as usize || literals > LITERALS as usize {
+        if count >= CLAUSES || literals > LITERALS as usize {
             return Err(BaseFault::NoRoom);
         }
         Ok(self.next)
     }
 
+    /// The live clause with this number.
+    fn find(&self, number: u32) -> Option<Entry> {
+        self.clauses.get(number as usize).copied().flatten()
+    }
+
     /// One scan of all clauses: a conflict, or the last literal that is forced, or nothing.
     fn scan(&self) -> Said {
         let mut found = Said::Nothing;
-        for clause in self.clauses.values() {
-            match say(&self.values, clause) {
+        for live in self.clauses.iter().flatten() {
+            match say(&self.values, live.clause()) {
                 Said::Conflict => return Said::Conflict,
                 Said::Forced(literal) => found = Said::Forced(literal),
                 Said::Nothing => {}
@@ -146,37 +181,32 @@ impl Calls for Plain {
         }
         self.variables = variables;
         self.next = 1;
-        self.clauses.clear();
+        self.clauses = [None; NUMBERS];
         Ok(())
     }
 
-    fn add(&mut self, clause: &[i32]) -> Result<Result<u32, BaseFault>, AllocError> {
-        let number = match self.check_clause(clause) {
-            Ok(number) => number,
-            Err(fault) => return Ok(Err(fault)),
-        };
-        let mut literals = Vec::new(self.alloc);
-        literals.extend_from_slice(clause)?;
-        self.clauses.insert(number, literals)?;
+    fn add(&mut self, clause: &[i32]) -> Result<u32, BaseFault> {
+        let number = self.check_clause(clause)?;
+        if let Some(slot) = self.clauses.get_mut(number as usize) {
+            *slot = Some(Entry::new(clause));
+        }
         self.next = number.wrapping_add(1);
-        Ok(Ok(number))
+        Ok(number)
     }
 
     fn delete(&mut self, number: u32) -> Result<(), BaseFault> {
         self.check_stage(Stage::Idle)?;
-        match self.clauses.remove(&number) {
-            Some(_) => Ok(()),
-            None => Err(BaseFault::NotLive),
+        self.find(number).ok_or(BaseFault::NotLive)?;
+        if let Some(slot) = self.clauses.get_mut(number as usize) {
+            *slot = None;
         }
+        Ok(())
     }
 
     fn hint(&mut self, number: u32) -> Result<Hinted, BaseFault> {
         self.check_stage(Stage::Open)?;
-        let said = match self.clauses.get(&number) {
-            Some(clause) => say(&self.values, clause),
-            None => return Err(BaseFault::NotLive),
-        };
-        match said {
+        let live = self.find(number).ok_or(BaseFault::NotLive)?;
+        match say(&self.values, live.clause()) {
             Said::Conflict => {
                 self.stage = Stage::Answered;
                 Ok(Hinted::Conflict)
@@ -205,16 +235,11 @@ impl Calls for Plain {
 }
 
 impl Subject for Plain {
-    fn trial(
-        &mut self,
-        clause: &[i32],
-        random: &mut Random,
-        log: &mut Log,
-    ) -> Result<(), AllocError> {
+    fn trial(&mut self, clause: &[i32], random: &mut Random, log: &mut Log) {
         log.answer(self.run());
         if is_bad(clause, self.variables) {
             log.fault(BaseFault::Malformed);
-            return Ok(());
+            return;
         }
         self.values = [None; 10];
         for literal in clause {
@@ -222,11 +247,10 @@ impl Subject for Plain {
         }
         self.stage = Stage::Open;
         hint_some(self, random, log);
-        disturb(self, clause, log)?;
+        disturb(self, clause, log);
         log.answer(self.run());
         log.answer(self.run());
         self.stage = Stage::Idle;
-        Ok(())
     }
 
     fn ask(&self, number: u32, log: &mut Log) {
@@ -235,6 +259,6 @@ impl Subject for Plain {
         log.number(VARIABLES);
         log.number(CLAUSES);
         log.number(LITERALS);
-        log.number(u32::from(self.clauses.contains_key(&number)));
+        log.number(u32::from(self.find(number).is_some()));
     }
 }

@@ -4,7 +4,6 @@ ghost use Rattle.std.specs.Prelude.{◌≤◌};
 use crate::log::Log;
 use crate::random::Random;
 use crate::subject::Subject;
-use std::alloc::AllocError;
 
 /// How many literals a clause has: now and then none, else one to four.
 fn draw_length(random: &mut Random) -> usize
@@ -29,7 +28,7 @@ fn draw_literal(random: &mut Random) -> i32 {
     }
 }
 
-fn turn<S: Subject>(subject: &mut S, random: &mut Random, log: &mut Log) -> Result<(), AllocError> {
+fn turn<S: Subject>(subject: &mut S, random: &mut Random, log: &mut Log) {
     let length = draw_length(random);
     let mut literals = [0; 4];
     for literal in literals.iter_mut() {
@@ -39,15 +38,14 @@ fn turn<S: Subject>(subject: &mut S, random: &mut Random, log: &mut Log) -> Resu
     let kind = random.below(16);
     let number = random.below(24);
     match kind {
-        0..8 => log.numbered(subject.add(clause)?),
+        0..8 => log.numbered(subject.add(clause)),
         8..11 => log.done(subject.delete(number)),
-        11..15 => subject.trial(clause, random, log)?,
+        11..15 => subject.trial(clause, random, log),
         _ => subject.ask(number, log),
     }
-    Ok(())
 }
 
-pub fn play<S: Subject>(subject: &mut S, seed: u32, log: &mut Log) -> Result<(), AllocError> {
+pub fn play<S: Subject>(subject: &mut S, seed: u32, log: &mut Log) {
     let mut random = Random::new(seed);
     for _ in 0..3 {
         let variables = if random.below(4) == 0 {
@@ -57,8 +55,7 @@ pub fn play<S: Subject>(subject: &mut S, seed: u32, log: &mut Log) -> Result<(),
         };
         log.done(subject.clear(variables));
         for _ in 0..60 {
-            turn(subject, &mut random, log)?;
+            turn(subject, &mut random, log);
         }
     }
-    Ok(())
 }

@@ -2,14 +2,12 @@
 use crate::log::Log;
 use crate::random::Random;
 use clauses::fault::{BaseFault, Hinted};
-use std::alloc::AllocError;
 
 /// The calls of a base.
 pub trait Calls {
     fn clear(&mut self, variables: u32) -> Result<(), BaseFault>;
 
-    /// Adds a clause. A subject that keeps its clauses on the heap may find no memory there.
-    fn add(&mut self, clause: &[i32]) -> Result<Result<u32, BaseFault>, AllocError>;
+    fn add(&mut self, clause: &[i32]) -> Result<u32, BaseFault>;
 
     fn delete(&mut self, number: u32) -> Result<(), BaseFault>;
 
@@ -22,12 +20,7 @@ pub trait Calls {
 
 pub trait Subject: Calls {
     /// A whole trial: hints as the random numbers say, calls that are refused, and runs.
-    fn trial(
-        &mut self,
-        clause: &[i32],
-        random: &mut Random,
-        log: &mut Log,
-    ) -> Result<(), AllocError>;
+    fn trial(&mut self, clause: &[i32], random: &mut Random, log: &mut Log);
 
     /// The questions that change nothing.
     fn ask(&self, number: u32, log: &mut Log);
@@ -44,9 +37,8 @@ pub fn hint_some<C: Calls>(subject: &mut C, random: &mut Random, log: &mut Log) 
 }
 
 /// Calls that a trial stands in the way of.
-pub fn disturb<C: Calls>(subject: &mut C, clause: &[i32], log: &mut Log) -> Result<(), AllocError> {
+pub fn disturb<C: Calls>(subject: &mut C, clause: &[i32], log: &mut Log) {
     log.done(subject.clear(3));
-    log.numbered(subject.add(clause)?);
+    log.numbered(subject.add(clause));
     log.done(subject.delete(1));
-    Ok(())
 }

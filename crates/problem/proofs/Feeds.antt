@@ -1,5 +1,5 @@
 -- Feeding one list of clauses after another.
-use Rattle.std.proofs.Common.{◌≡◌, ℕ, ◌+◌, ◌<◌, ◌≤◌, List, [], ◌∷◌, ◌++◌, length, get_or, drop, Ok, Err, Result, MatchResult, sym, refl, subst, inl, inr}
+use Rattle.std.proofs.Common.{arith, ◌≡◌, ℕ, ◌+◌, ◌<◌, ◌≤◌, List, [], ◌∷◌, ◌++◌, length, get_or, drop, Ok, Err, Result, MatchResult, sym, refl, subst, inl, inr}
 use Rattle.std.specs.Result.{IsErr}
 use Rattle.std.proofs.lemmas.List.{drop_more, drop_all}
 use Rattle.std.proofs.lemmas.Bool.{false≢true}
@@ -53,6 +53,11 @@ module _ {S : Type 0} (goes stops : S → Clause → S → Type 0) where
 
   pub left_all : (whole : List Clause) (start s : S) → Left goes stops whole start [] s → Fed goes stops whole (Ok tt) start s
   left_all whole start s k = k (Ok tt) s refl
+
+  -- nothing is left of what the clauses are made of
+  pub left_none : {X : Type 0} (f : List X → List Clause) (whole : List Clause) (start s : S) (xs : List X) → length xs ≡ 0 → f [] ≡ [] → Left goes stops whole start (f xs) s → Fed goes stops whole (Ok tt) start s
+  left_none f whole start s [] e z k = left_all whole start s (subst (λ cs. Left goes stops whole start cs s) z k)
+  left_none f whole start s (x ∷ xs) e z k = absurd (omega (arith, e))
 
   -- the same over a list of which each member has clauses
   module _ {X : Type 0} (f : X → List Clause) (whole : List Clause) (start s t : S) where

@@ -48,11 +48,13 @@ stored_turn text e r s f d P Q w c o z t m tk dn rd p h =
     ∙ sym (stored_step (limit_of e) (kept text r f) (word_in P.text.now w) (left Q) text c a l)
     ∙ ap (stored (limit_of e) (kept text r f)) (sym tk.0) ∙ h
 
-pub lost_and : {U F : Type 0} (a o : Result U F) → lost_after (is_err a) o ≡ is_err (result_and a o)
-lost_and (Ok u) (Ok v) = refl
-lost_and (Ok u) (Err e) = refl
-lost_and (Err d) (Ok v) = refl
-lost_and (Err d) (Err e) = refl
+pub lost_err : {U F : Type 0} (f : Bool) (o : Result U F) → is_err o ≡ true → lost_after f o ≡ true
+lost_err f (Ok u) e = absurd (let z : ◌≡◌ {A = ℕ} 0 1 = cc in omega arith)
+lost_err f (Err e) h = refl
+
+pub lost_ok : {U F : Type 0} (f : Bool) (o : Result U F) → is_err o ≡ false → lost_after f o ≡ f
+lost_ok f (Ok u) e = refl
+lost_ok f (Err e) h = absurd (let z : ◌≡◌ {A = ℕ} 0 1 = cc in omega arith)
 
 -- all that the loop keeps, over one turn
 pub turn_kept : {U F : Type 0} (text : List ℕ) (e r s : Rows ConstraintRow) (f d g : Bool) (P Q : Parts) (w : Word) (c : ConstraintRow) (o : Result U F) (z : Option Kept) → lost_after f o ≡ g → (stored (limit_of e) (kept text r f) (left P) ≡ z) × (P.text.now ≡ text) × Grown text e r → Takes P Q (Some w) → MatchBool d (left Q ≡ []) (left Q ≡ [] → ⊥) → Reads text w d (Some c) → Pushes (min 1024 (room r)) (items r) c (items s) o → Same r s → (stored (limit_of e) (kept text s g) (left Q) ≡ z) × (Q.text.now ≡ text) × Grown text e s

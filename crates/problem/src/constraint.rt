@@ -47,13 +47,15 @@ fn read_operator(text: &[u8]) -> Option<(Relation, usize)>
     ensures value { result ≡ operator_of text.now }
     ensures within { IfSome result (λ p. p.1 ≤ length text.now) }
 {
-    match text {
-        [b'=', ..] => Some((Relation::Equal, 1)),
-        [b'!', b'=', ..] => Some((Relation::Differs, 2)),
-        [b'>', b'=', ..] => Some((Relation::AtLeast, 2)),
-        [b'>', ..] => Some((Relation::Greater, 1)),
-        [b'<', b'=', ..] => Some((Relation::AtMost, 2)),
-        [b'<', ..] => Some((Relation::Less, 1)),
+    let first = text.first().copied().unwrap_or(0) as char;
+    let second = text.get(1).copied().unwrap_or(0) as char;
+    match (first, second) {
+        ('=', _) => Some((Relation::Equal, 1)),
+        ('!', '=') => Some((Relation::Differs, 2)),
+        ('>', '=') => Some((Relation::AtLeast, 2)),
+        ('>', _) => Some((Relation::Greater, 1)),
+        ('<', '=') => Some((Relation::AtMost, 2)),
+        ('<', _) => Some((Relation::Less, 1)),
         _ => None,
     }
 }

@@ -33,7 +33,9 @@ fn read_constraints(
     let mut parts = Parts::new(text, part, mark);
     while let Some(piece) = parts.next_part() {
         let row = read_constraint(text, piece, parts.is_done())?;
-        placed = placed.and(out.push_within(row, CONSTRAINTS_MOST));
+        if out.push_within(row, CONSTRAINTS_MOST).is_err() {
+            placed = Err(Full);
+        }
     }
     Some(placed)
 }

@@ -67,8 +67,9 @@ fn feed_installs<S: ClauseSink>(
 ) -> Result<(), Stopped>
     ensures { Fed S.goes S.stops (each_all (λ c. each lit (passing (row_satisfies_one stanzas.now.text.now (c ∷ [])) 0 stanzas.now.rows.now) ∷ []) items.now) result sink.old sink.new }
 {
+    let mut memory = [0; PACKAGES_MOST];
     for item in items {
-        feed_install(stanzas, item, sink)?;
+        feed_install(stanzas, item, &mut memory, sink)?;
     }
     Ok(())
 }
@@ -77,12 +78,12 @@ fn feed_installs<S: ClauseSink>(
 fn feed_install<S: ClauseSink>(
     stanzas: &Stanzas<'_>,
     item: &ConstraintRow,
+    memory: &mut [i32; PACKAGES_MOST],
     sink: &mut S,
 ) -> Result<(), Stopped>
     ensures { Fed S.goes S.stops (each lit (passing (row_satisfies_one stanzas.now.text.now (item.now ∷ [])) 0 stanzas.now.rows.now) ∷ []) result sink.old sink.new }
 {
-    let mut memory = [0; PACKAGES_MOST];
-    let mut clause = Rows::new(&mut memory, 0);
+    let mut clause = Rows::new(&mut memory[..stanzas.rows.len()], 0);
     write_met(stanzas, 0, &[*item], &mut clause);
     sink.take(clause.as_slice())
 }

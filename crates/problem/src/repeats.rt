@@ -11,7 +11,8 @@ use text::word::bytes_of;
 fn is_among(text: &[u8], x: &PackageRow, rows: &[PackageRow]) -> bool
     ensures { result ≡ some (λ y. same_stanza text.now y x.now) rows.now }
 {
-    rows.iter().any(|row| x.is_stanza(text, bytes_of(text, row.name), row.version))
+    // The number first: where versions differ no name is looked at.
+    rows.iter().any(|row| row.version == x.version && row.is_named(text, bytes_of(text, x.name)))
 }
 
 /// The line of the first stanza whose name and version an earlier one has.

@@ -3,6 +3,7 @@ ghost use Rattle.std.specs.Prelude.{◌≡◌, ◌&&◌, ◌==◌};
 ghost use Rattle.std.specs.Str.{bytes_eq};
 ghost use Rattle.text.specs.Word.{word_in};
 
+use text::same::same_bytes;
 use text::word::{Word, bytes_of};
 
 /// How a version stands to the version of a constraint.
@@ -54,14 +55,15 @@ impl PackageRow {
     pub fn is_named(&self, text: &[u8], name: &[u8]) -> bool
         ensures { result ≡ bytes_eq name.now (word_in text.now self.now.name) }
     {
-        name == bytes_of(text, self.name)
+        same_bytes(name, bytes_of(text, self.name))
     }
 
     /// Whether the row has this name, in the document, and this version.
     pub(crate) fn is_stanza(&self, text: &[u8], name: &[u8], version: u32) -> bool
         ensures { result ≡ (bytes_eq name.now (word_in text.now self.now.name) && version == self.now.version) }
     {
-        self.is_named(text, name) && version == self.version
+        // The number first: where versions differ no name is looked at.
+        version == self.version && self.is_named(text, name)
     }
 }
 

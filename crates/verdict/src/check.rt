@@ -160,7 +160,7 @@ fn line_of(judgement: Result<Line, VerdictFault>) -> Line
 {
     match judgement {
         Ok(line) => line,
-        Err(fault) => Line::Refused(fault.into()),
+        Err(fault) => Line::Refused(fault.refusal()),
     }
 }
 

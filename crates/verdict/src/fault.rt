@@ -54,6 +54,15 @@ impl From<RunFault> for VerdictFault {
     }
 }
 
+impl VerdictFault {
+    /// The file, the place and the number of a fault.
+    pub fn refusal(self) -> Refusal
+        ensures { result ≡ refused self }
+    {
+        self.into()
+    }
+}
+
 impl From<VerdictFault> for Refusal {
     ghost from_gives = { λ f r. r ≡ refused f };
 

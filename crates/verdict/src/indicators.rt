@@ -14,9 +14,11 @@ use crate::names::{Indicator, is_listed};
 use problem::sink::{ClauseSink, Stopped};
 use problem::stanzas::Stanzas;
 use problem::variable::Variable;
-use problem::view::PACKAGES_MOST;
 use text::rows::Rows;
 use text::word::bytes_of;
+
+/// The most literals of a clause: all package stanzas, and a name's own variable.
+const CLAUSE_MOST: usize = 257;
 
 /// That a name is changed if its version at a place does not stand as it did.
 fn feed_change<S: ClauseSink>(
@@ -89,12 +91,12 @@ fn feed_removed<S: ClauseSink>(
     stanzas: &Stanzas<'_>,
     name: &[u8],
     removed: Variable,
+    memory: &mut [i32; CLAUSE_MOST],
     sink: &mut S,
 ) -> Result<(), Stopped>
     ensures { Fed S.goes S.stops (of_name Removed stanzas.now.text.now stanzas.now.rows.now removed.number name.now) result sink.old sink.new }
 {
-    let mut memory = [0; PACKAGES_MOST + 1];
-    let mut clause = Rows::new(&mut memory, 0);
+    let mut clause = Rows::new(&mut memory[..stanzas.rows.len() + 1], 0);
     write_versions(stanzas, name, &mut clause);
     write_variable(&mut clause, removed);
     sink.take(clause.as_slice())
@@ -106,12 +108,13 @@ fn feed_indicator<S: ClauseSink>(
     indicator: Indicator,
     name: &[u8],
     variable: Variable,
+    memory: &mut [i32; CLAUSE_MOST],
     sink: &mut S,
 ) -> Result<(), Stopped>
     ensures { Fed S.goes S.stops (of_name indicator stanzas.now.text.now stanzas.now.rows.now variable.number name.now) result sink.old sink.new }
 {
     match indicator {
-        Indicator::Removed => feed_removed(stanzas, name, variable, sink),
+        Indicator::Removed => feed_removed(stanzas, name, variable, memory, sink),
         Indicator::Changed => feed_changed(stanzas, name, variable, sink),
     }
 }
@@ -129,11 +132,13 @@ pub(crate) fn feed_indicators<S: ClauseSink>(
 {
     // Tried: a `for` over the filtered rows. No proof is made of one over an iterator with a closure where there is a type
     // parameter.
+    let mut memory = [0; CLAUSE_MOST];
     let mut number = first;
     for (place, row) in stanzas.rows.iter().enumerate() {
         if is_listed(stanzas, indicator, place, row) {
             let name = bytes_of(stanzas.text, row.name);
-            feed_indicator(stanzas, indicator, name, Variable { number }, sink)?;
+            let variable = Variable { number };
+            feed_indicator(stanzas, indicator, name, variable, &mut memory, sink)?;
             number += 1;
         }
     }

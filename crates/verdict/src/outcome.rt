@@ -53,6 +53,14 @@ impl From<OpenFault> for SessionFault {
     }
 }
 
+impl From<SessionFault> for RunFault {
+    ghost from_gives = { λ f r. r ≡ Session f };
+
+    fn from(fault: SessionFault) -> RunFault {
+        RunFault::Session(fault)
+    }
+}
+
 impl From<OpenFault> for RunFault {
     ghost from_gives = { λ f r. r ≡ Session (Opening f) };
 

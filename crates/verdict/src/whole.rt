@@ -52,7 +52,7 @@ fn end(session: Open, reply: Reply) -> Result<Verdict, RunFault>
 {
     match reply {
         Reply::Refused(fault, place) => Err(RunFault::Step(fault, place)),
-        Reply::Taken | Reply::Nothing => close(session).map_err(RunFault::Session),
+        Reply::Taken | Reply::Nothing => Ok(close(session)?),
     }
 }
 

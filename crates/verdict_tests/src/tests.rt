@@ -152,6 +152,8 @@ fn no_empty_clause(rt: HostRuntime) {
     assert!(rt; says(one_step, b"REFUSED certificate 2 25\n"));
     let no_step = line_of(IMPOSSIBLE, b"FAIL\n", b"");
     assert!(rt; says(no_step, b"REFUSED certificate 1 25\n"));
+    let with_plan = line_of(GEARBOX, b"FAIL\n", b"");
+    assert!(rt; says(with_plan, b"REFUSED certificate 1 25\n"));
 }
 
 #[test]

@@ -12,7 +12,12 @@ impl Store<'_> {
         requires within { from + len ≤ length self.old.literals.now }
         ensures { Copied self.old self.new (take len (drop from self.old.literals.now)) }
     {
-        self.literals.copy_within(from..from + len, self.filled);
+        let end = self.filled;
+        // Where there is no gap, each literal would be copied onto itself.
+        if end == from {
+            return;
+        }
+        self.literals.copy_within(from..from + len, end);
     }
 
     /// Closes the gaps: each row is live, and its literals follow those of the row before.

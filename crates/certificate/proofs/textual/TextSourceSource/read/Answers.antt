@@ -5,7 +5,6 @@ use Rattle.certificate.specs.Stream.{broken}
 use Rattle.certificate.proofs.Answering.{reads_ended}
 use Rattle.certificate.proofs.LineEnds.{lines_past, lines_open}
 use Rattle.certificate.proofs.LineReads.{line_read, line_passed, line_refused_at}
-use Rattle.certificate.proofs.textual.TextSourceSource.read.Goals.{in-Err-TooMany, in-Ok}
 use Rattle.certificate.proofs.textual.TextSourceSource.read.Goals as goal
 
 pub returns-then-self-ge-PLACES : goal.returns-then-self-ge-PLACES
@@ -30,19 +29,16 @@ returns-in-Err-Form c =
     let h = line_refused_at (memory_of c.args.literals.now c.args.hints.now) s.number c.in-Some.n s.rest.now c.read_line.new.literals c.read_line.new.hints c.if-self-ge-PLACES.false c.in-Some.ensures.0 c.in-Some.ensures.1 (search (rules, c.in-Err-Form.ensures.answer)) c.in-Err-Form.ensures.memory in
     record { memory = h.0; reads = h.1 }
 
-pub returns : goal.returns
-returns c =
+pub returns-in-Err-TooMany : goal.returns-in-Err-TooMany
+returns-in-Err-TooMany c =
     let s = c.args.self.now in
-    let k = memory_of c.args.literals.now c.args.hints.now in
-    let ls = c.read_line.new.literals in
-    let hs = c.read_line.new.hints in
-    elim c.match-read_line.branch [
-      | in-Err-TooMany w ↦
-          let a = w.in-Err-TooMany.ensures in
-          let h = line_passed k s.number c.in-Some.n s.rest.now ls hs c.if-self-ge-PLACES.false c.in-Some.ensures.0 c.in-Some.ensures.1 (search (rules, a.answer)) a.memory in
-          record { memory = h.0; reads = rw w.read-is h.1 }
-      | in-Ok w ↦
-          let a = w.in-Ok.ensures in
-          let h = line_read k s.number c.in-Some.n s.rest.now w.in-Ok.shape ls hs c.if-self-ge-PLACES.false c.in-Some.ensures.0 c.in-Some.ensures.1 a.answer a.memory in
-          record { memory = h.0; reads = rw w.read-is h.1 }
-    ]
+    let a = c.in-Err-TooMany.ensures in
+    let h = line_passed (memory_of c.args.literals.now c.args.hints.now) s.number c.in-Some.n s.rest.now c.read_line.new.literals c.read_line.new.hints c.if-self-ge-PLACES.false c.in-Some.ensures.0 c.in-Some.ensures.1 (search (rules, a.answer)) a.memory in
+    record { memory = h.0; reads = h.1 }
+
+pub returns-in-Ok : goal.returns-in-Ok
+returns-in-Ok c =
+    let s = c.args.self.now in
+    let a = c.in-Ok.ensures in
+    let h = line_read (memory_of c.args.literals.now c.args.hints.now) s.number c.in-Some.n s.rest.now c.in-Ok.shape c.read_line.new.literals c.read_line.new.hints c.if-self-ge-PLACES.false c.in-Some.ensures.0 c.in-Some.ensures.1 a.answer a.memory in
+    record { memory = h.0; reads = h.1 }
