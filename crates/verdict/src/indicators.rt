@@ -14,11 +14,12 @@ use crate::names::{Indicator, is_listed};
 use problem::sink::{ClauseSink, Stopped};
 use problem::stanzas::Stanzas;
 use problem::variable::Variable;
+use problem::view::PACKAGES_MOST;
 use text::rows::Rows;
 use text::word::bytes_of;
 
 /// The most literals of a clause: all package stanzas, and a name's own variable.
-const CLAUSE_MOST: usize = 257;
+const CLAUSE_MOST: usize = PACKAGES_MOST + 1;
 
 /// That a name is changed if its version at a place does not stand as it did.
 fn feed_change<S: ClauseSink>(

@@ -46,6 +46,9 @@ pub(super) fn feed_depends<S: ClauseSink>(
     requires { place < length stanzas.now.rows.now }
     ensures { Fed S.goes S.stops (each_all (λ cs. needs (suc place) (passing (row_satisfies_one stanzas.now.text.now cs) 0 stanzas.now.rows.now)) (conjuncts depends.now)) result sink.old sink.new }
 {
+    if depends.is_empty() {
+        return Ok(());
+    }
     // Tried: a `for` over the groups. No proof is made of one over an iterator with a closure where there is a type parameter.
     let mut memory = [0; PACKAGES_MOST];
     let mut rest = depends;
