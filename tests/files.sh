@@ -21,9 +21,9 @@ try() {
     done
     said=$(cd "$work/run" && timeout 60 "$program" 2>&1) || said="status $?: $said"
     if [ "$said" = "$expected" ]; then
-        echo "files: $* alone: $said, as it must be"
+        echo "files: ${*:-none}: $said, as it must be"
     else
-        echo "files: $* alone: expected $expected, said $said"
+        echo "files: ${*:-none}: expected $expected, said $said"
         failed=1
     fi
 }
